@@ -1,0 +1,24 @@
+//! Blocks of bytes, and the sources and sinks that bytes come from and go to.
+//!
+//! A [`Block`] is seen as the list of its bytes. A [`Source`] may tell the bytes that it has left, and a
+//! [`Sink`] the bytes that were appended to it and how many of them are flushed. Both keep a count of
+//! faults that never falls, and a call answers [`Failed`] only where that count rose. The layers above
+//! rely on these contracts alone: they are generic in the source and the sink.
+//!
+//! The layer stands on std. [`NoMemory`] is the one name for want of memory in all crates above.
+#![tactic(auto)]
+
+mod block;
+mod failed;
+mod no_memory;
+mod sink;
+mod source;
+
+pub use block::Block;
+pub use failed::Failed;
+pub use no_memory::NoMemory;
+pub use sink::Sink;
+pub use source::Source;
+
+#[cfg(test)]
+mod tests;
