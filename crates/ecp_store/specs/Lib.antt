@@ -1,1 +1,4 @@
+pub mod Calls
+pub mod Edge
 pub mod Faults
+pub mod Memory

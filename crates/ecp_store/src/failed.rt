@@ -1,14 +1,6 @@
-use std::error::Error;
-use std::fmt;
+use thiserror::Error;
 
 /// A source, a sink or a store failed. Its own count of faults rose in the call that answers this.
-#[derive(Clone, Copy, Debug, PartialEq, Eq)]
+#[derive(Clone, Copy, Debug, PartialEq, Eq, Error)]
+#[error("failed")]
 pub struct Failed;
-
-impl fmt::Display for Failed {
-    fn fmt<W: fmt::Write>(&self, f: &mut fmt::Formatter<W>) -> fmt::Result {
-        f.write_str("failed")
-    }
-}
-
-impl Error for Failed {}
