@@ -1,3 +1,6 @@
+ghost use Rattle.std.specs.Prelude.{◌≡◌};
+ghost use Rattle.ecp_store.specs.NoMemory.{no_memory};
+
 use std::alloc::{AllocError, AllocFailed};
 use thiserror::Error;
 
@@ -9,12 +12,16 @@ use thiserror::Error;
 pub struct NoMemory;
 
 impl From<AllocError> for NoMemory {
+    ghost from_gives = { λ _ error. error ≡ no_memory };
+
     fn from(_error: AllocError) -> NoMemory {
         NoMemory
     }
 }
 
 impl<T: Drop> From<AllocFailed<T>> for NoMemory {
+    ghost from_gives = { λ _ error. error ≡ no_memory };
+
     fn from(_error: AllocFailed<T>) -> NoMemory {
         NoMemory
     }
