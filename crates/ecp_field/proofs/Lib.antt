@@ -1,0 +1,4 @@
+pub mod Computed
+pub mod Exclusive
+pub mod Linear
+pub mod FieldLaws

@@ -1,0 +1,13 @@
+-- Byte sums and products along lists.
+use Rattle.std.specs.Prelude.{ℕ, List, [], ◌∷◌, map}
+use Rattle.ecp_field.specs.Field.{byte_sum, byte_product}
+
+-- the sums of two lists, byte by byte, as far as both go
+abbrev pub sums : List ℕ → List ℕ → List ℕ
+sums [] ys = []
+sums (x ∷ xs) [] = []
+sums (x ∷ xs) (y ∷ ys) = byte_sum x y ∷ sums xs ys
+
+-- the products of a constant and each byte of a list
+abbrev pub scaled : ℕ → List ℕ → List ℕ
+scaled c xs = map (byte_product c) xs
