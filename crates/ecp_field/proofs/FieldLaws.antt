@@ -1,13 +1,13 @@
 -- The 256 bytes with their sums and products are a field. What a law needs of its bytes is that they are below 256.
-use Rattle.std.proofs.Common.{◌≡◌, ◌≢◌, ℕ, zero, suc, ◌+◌, ◌-◌, ◌%◌, ◌^◌, ◌<◌, ◌≤◌, ◌==◌, ◌⊎◌, Bool, true, false, cond, eqb, Some, unwrap_or, find, ap, sym, ◌∙◌, inl, inr, arith, eq-eqb, add_comm, ◌||◌}
+use Rattle.std.proofs.Common.{◌*◌, mul-zero, mul-suc, ◌≡◌, ◌≢◌, ℕ, zero, suc, ◌+◌, ◌-◌, ◌%◌, ◌^◌, ◌<◌, ◌≤◌, ◌==◌, ◌⊎◌, Bool, true, false, cond, eqb, Some, unwrap_or, find, refl, ap, sym, ◌∙◌, inl, inr, arith, eq-eqb, add_comm, ◌||◌}
 use Rattle.std.proofs.Math.Bool.{or_comm}
 use Rattle.std.specs.List.{range_with_len}
 use Rattle.std.specs.Int.Bits.{xor_assoc, xor_self, xor_zero_l, xor_zero_r}
 use Rattle.std.proofs.lemmas.Bool.{cases_eq, cases_lt, ne_eqb}
 use Rattle.std.proofs.lemmas.Nat.{xor_comm, xor_lt}
-use Rattle.ecp_field.specs.Field.{byte_sum, byte_product, byte_quotient}
+use Rattle.ecp_field.specs.Field.{byte_sum, byte_product, byte_quotient, byte_power}
 use Rattle.ecp_field.proofs.Computed.{power_of_two, log_of, byte_product-logs, product_of_nonzero, log_of-lt, power-log, log-power, power_pos, power-lt}
-use Rattle.ecp_field.proofs.Linear.{byte_product-sum_left}
+use Rattle.ecp_field.proofs.Linear.{byte_product-sum_left, byte_product-sum_right}
 
 -- ---- sums
 
@@ -110,10 +110,8 @@ product_assoc a b c p q r =
 pub product-sum_left : (a b c : ℕ) → byte_product (byte_sum a b) c ≡ byte_sum (byte_product a c) (byte_product b c)
 product-sum_left a b c = byte_product-sum_left a b c
 
-pub product-sum_right : (a b c : ℕ) → a < 2 ^ 8 → b < 2 ^ 8 → c < 2 ^ 8 → byte_product a (byte_sum b c) ≡ byte_sum (byte_product a b) (byte_product a c)
-product-sum_right a b c p q r =
-    product_comm a (byte_sum b c) p (sum-lt b c q r) ∙ product-sum_left b c a
-    ∙ ap (λ n. byte_sum n (byte_product c a)) (product_comm b a q p) ∙ ap (byte_sum (byte_product a b)) (product_comm c a r p)
+pub product-sum_right : (a b c : ℕ) → byte_product a (byte_sum b c) ≡ byte_sum (byte_product a b) (byte_product a c)
+product-sum_right a b c = byte_product-sum_right a b c
 
 -- ---- quotients
 
@@ -204,3 +202,34 @@ quotient_product a b p q y =
       | inl a0 ↦ rw a0 (ap (λ n. byte_product n b) (quotient-zero_left b q y) ∙ product-zero_left b q)
       | inr x ↦ ap (λ n. byte_product n b) (byte_quotient-logs a b p q x y) ∙ quotient_by_logs-product a b p q x y
     ]
+
+-- ---- powers
+
+pub power-byte : (a e : ℕ) → a < 2 ^ 8 → byte_power a e < 2 ^ 8
+unfolding byte_power
+power-byte a zero p = omega arith
+power-byte a (suc e) p = product-lt a (byte_power a e) p (power-byte a e p)
+
+pub power-zero : (e : ℕ) → e ≢ 0 → byte_power 0 e ≡ 0
+unfolding byte_power
+power-zero zero h = absurd (h refl)
+power-zero (suc e) h = product-zero_left (byte_power 0 e) (power-byte 0 e (omega arith))
+
+pub power-by_logs : (a e : ℕ) → a < 2 ^ 8 → a ≢ 0 → byte_power a e ≡ power_of_two (log_of a * e % 255)
+unfolding byte_power
+power-by_logs a zero p x = ap (λ n. power_of_two (n % 255)) (sym (mul-zero (log_of a)))
+power-by_logs a (suc e) p x =
+    let i = log_of a * e % 255 in
+    let below : i < 255 = omega arith in
+    let more : (log_of a + i) % 255 ≡ log_of a * suc e % 255 = omega (arith, mul-suc (log_of a) e) in
+    ap (byte_product a) (power-by_logs a e p x)
+    ∙ product_of_nonzero a (power_of_two i) p (power-lt i below) x (λ e. omega (arith, power_pos i below))
+    ∙ ap (λ n. power_of_two ((log_of a + n) % 255)) (log-power i below)
+    ∙ ap power_of_two more
+
+-- ---- the two tables
+
+pub power_of_two-is : (i : ℕ) → i < 255 → power_of_two i ≡ byte_power 2 i
+power_of_two-is i p =
+    let same : 1 * i % 255 ≡ i = omega arith in
+    sym (power-by_logs 2 i (omega arith) (λ e. omega arith) ∙ ap power_of_two same)

@@ -2,3 +2,4 @@ pub mod Computed
 pub mod Exclusive
 pub mod Linear
 pub mod FieldLaws
+pub mod ListLaws

@@ -1,6 +1,6 @@
 //! Sums, products and quotients of two bytes.
 ghost use Rattle.std.specs.Prelude.{◌≡◌, ◌≢◌, ◌<◌, slice_index};
-ghost use Rattle.ecp_field.specs.Field.{byte_sum, byte_product, byte_quotient};
+ghost use Rattle.ecp_field.specs.Field.{byte_sum, byte_product, byte_quotient, byte_power};
 
 use crate::tables::{EXP, LOG};
 
@@ -55,4 +55,25 @@ pub fn div(a: u8, b: u8) -> u8
         return 0;
     }
     exp((log(a) + ORDER - log(b)) % ORDER)
+}
+
+/// `a` to the power `e`. `pow(0, 0)` is 1.
+pub fn pow(a: u8, e: u32) -> u8
+    ensures { result ≡ byte_power a e }
+{
+    if e == 0 {
+        return 1;
+    }
+    if a == 0 {
+        return 0;
+    }
+    power_of_nonzero(a, e)
+}
+
+fn power_of_nonzero(a: u8, e: u32) -> u8
+    requires { a ≢ 0 }
+    ensures { result ≡ byte_power a e }
+{
+    let turns = log(a) as u64 * e as u64;
+    exp((turns % ORDER as u64) as usize)
 }

@@ -7,7 +7,11 @@
 #![tactic(auto)]
 
 mod arithmetic;
+mod laws;
 mod tables;
+#[cfg(test)]
+mod tests;
 
-pub use arithmetic::{add, div, inv, mul};
+pub use arithmetic::{add, div, inv, mul, pow};
+pub use laws::{addition_laws, list_laws, multiplication_laws, quotient_laws, table_laws};
 pub use tables::{EXP, LOG};
