@@ -1,0 +1,19 @@
+use Rattle.std.specs.Prelude.{ℕ, List, [], ◌∷◌, length, replicate}
+use Rattle.std.specs.List.{range_with_len}
+use Rattle.ecp_field.specs.Lists.{sums, scaled}
+use Rattle.ecp_code.specs.Weights.{weights}
+
+-- the sum of blocks of len bytes, byte by byte, each scaled by its weight
+abbrev pub weighted_sum : ℕ → List ℕ → List (List ℕ) → List ℕ
+weighted_sum len [] blocks = replicate len 0
+weighted_sum len (w ∷ ws) [] = replicate len 0
+weighted_sum len (w ∷ ws) (block ∷ blocks) = sums (scaled w block) (weighted_sum len ws blocks)
+
+-- how many bytes each of the data blocks has
+abbrev pub block_len : List (List ℕ) → ℕ
+block_len [] = 0
+block_len (block ∷ blocks) = length block
+
+-- row t of the stripe whose data are these blocks, rows 0, 1 and so on: interpolation through them
+abbrev pub row : List (List ℕ) → ℕ → List ℕ
+row blocks t = weighted_sum (block_len blocks) (weights (range_with_len 0 (length blocks)) t) blocks
