@@ -1,0 +1,4 @@
+pub mod BlockLaws
+pub mod RowLaws
+pub mod StripeLaws
+pub mod WeightLaws

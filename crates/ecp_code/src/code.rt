@@ -1,8 +1,20 @@
-ghost use Rattle.std.specs.Prelude.{◌≡◌, ◌↔◌, IfOk, IfErr, IsOk};
+ghost use Rattle.std.specs.Prelude.{◌≡◌, ◌≤◌, ◌<◌, ◌+◌, ◌-◌, ◌*◌, ◌↔◌, nat_eq, length, take, drop, replicate, All, IfOk, IfErr, IsOk};
+ghost use Rattle.std.specs.List.{IsDistinct, range_with_len};
 ghost use Rattle.ecp_code.specs.Code.{IsShape};
+ghost use Rattle.ecp_code.specs.Rows.{row as row_at};
+ghost use Rattle.ecp_code.specs.Stripes.{blocks, stripe_count, stripe_len};
+ghost use Rattle.ecp_code.specs.Weights.{weights};
 
 use crate::bad_shape::BadShape;
+use crate::rows::sum_of_blocks;
+use crate::stripe::{Stripe, filled_bytes};
+use crate::weights::{Weights, weight};
+use ecp_store::{Block, NoMemory};
+use std::alloc::Global;
 use std::marker::Model;
+
+/// The rows of a stripe that may be data: as many as a code of 16 rows has.
+const ROWS: [u8; 16] = [0, 1, 2, 3, 4, 5, 6, 7, 8, 9, 10, 11, 12, 13, 14, 15];
 
 /// An (n, k) Reed-Solomon code: a stripe has n rows, of which rows 0 to k - 1 are data. 1 <= k < n <= 16.
 #[derive(Clone, Copy, Debug, PartialEq, Eq)]
@@ -54,5 +66,86 @@ impl Code {
         ensures shape { IsShape self.now.n self.now.k }
     {
         self.k
+    }
+
+    /// The weights of `rows` for row `target`, in the order of `rows`.
+    pub fn weights(&self, rows: &[u8], target: u8) -> Weights
+        requires count { length rows.now ≡ self.now.k }
+        requires distinct { IsDistinct nat_eq rows.now }
+        requires rows { All (λ row. row < self.now.n) rows.now }
+        requires target { target < self.now.n }
+        ensures len { result.len ≡ self.now.k }
+        ensures weights { take self.now.k result.w ≡ weights rows.now target }
+        ensures rest { drop self.now.k result.w ≡ replicate (16 - self.now.k) 0 }
+    {
+        let len = self.k;
+        let mut w = [0; 16];
+        for (i, &row) in rows.iter().enumerate() {
+            w[i] = weight(rows, row, target);
+        }
+        Weights { len, w }
+    }
+
+    /// The weights of the data rows for row `row`.
+    fn data_weights(&self, row: u8) -> Weights
+        requires { row < self.now.n }
+        ensures { take self.now.k result.w ≡ weights (range_with_len 0 self.now.k) row }
+    {
+        self.weights(&ROWS[..self.k as usize], row)
+    }
+
+    /// Row `row` of a stripe.
+    pub fn encode(&self, alloc: Global, from: &Stripe, row: u8) -> Result<Block, NoMemory>
+        requires data { length from.now ≡ self.now.k }
+        requires row { row < self.now.n }
+        ensures { IfOk result (λ block. block ≡ row_at from.now row) }
+    {
+        let weights = self.data_weights(row);
+        sum_of_blocks(
+            alloc,
+            &weights.w[..self.k as usize],
+            from.bytes(),
+            from.block_len() as usize,
+        )
+    }
+
+    /// Row `row` of the one stripe that these bytes are: k blocks of ceil(len / k) bytes, the last filled with zeros.
+    pub fn row_of(&self, alloc: Global, bytes: &[u8], row: u8) -> Result<Block, NoMemory>
+        requires { row < self.now.n }
+        ensures { IfOk result (λ block. block ≡
+            row_at (blocks self.now.k (stripe_len self.now.k (length bytes.now)) bytes.now) row) }
+    {
+        let weights = self.data_weights(row);
+        sum_of_blocks(
+            alloc,
+            &weights.w[..self.k as usize],
+            bytes,
+            bytes.len().div_ceil(self.k as usize),
+        )
+    }
+
+    /// Stripe `i` of a file with these bytes: k blocks of `block` bytes, filled with zeros where the bytes end.
+    pub fn stripe_at(
+        &self,
+        alloc: Global,
+        bytes: &[u8],
+        block: u32,
+        i: u32,
+    ) -> Result<Stripe, NoMemory>
+        requires block { 0 < block }
+        requires stripe { i < stripe_count self.now.k block (length bytes.now) }
+        ensures { IfOk result (λ stripe. stripe ≡ blocks self.now.k block (drop (i * (self.now.k * block)) bytes.now)) }
+    {
+        let size = usize::from(self.k) * block as usize;
+        let data = filled_bytes(alloc, &bytes[i as usize * size..], size)?;
+        Ok(Stripe::new(data, self.k, block))
+    }
+
+    /// How many stripes a file of `len` bytes has, with blocks of `block` bytes.
+    pub fn stripe_count(&self, len: u32, block: u32) -> u32
+        requires { 0 < block }
+        ensures { result ≡ stripe_count self.now.k block len }
+    {
+        u64::from(len).div_ceil(u64::from(self.k) * u64::from(block)) as u32
     }
 }

@@ -11,9 +11,12 @@
 
 mod bad_shape;
 mod code;
+mod rows;
+mod stripe;
 mod weights;
 
 pub use bad_shape::BadShape;
 pub use code::Code;
 pub use ecp_store::{Block, NoMemory};
+pub use stripe::Stripe;
 pub use weights::Weights;

@@ -1,0 +1,37 @@
+-- Laws of the numbers of bytes and stripes.
+use Rattle.std.proofs.Common.{◌≡◌, ℕ, zero, suc, ◌+◌, ◌-◌, ◌*◌, ◌/◌, ◌%◌, ◌<◌, ◌≤◌, min, add-zero, ap, sym, ◌∙◌, arith}
+use Rattle.std.proofs.Math.Nat.{div-mul-le_self}
+use Rattle.std.proofs.lemmas.Nat.{div-mul-add, div-add-mod', mod_below}
+use Rattle.ecp_code.specs.Stripes.{stripe_count}
+
+-- a quotient that is rounded up
+pub rounded_up : (a b : ℕ) → 0 < b → a / b + min 1 (a % b) ≡ (a + b - 1) / b
+rounded_up a b pos =
+    let q = a / b in
+    let r = a % b in
+    let whole : q * b + r ≡ a = div-add-mod' a b in
+    let small : r < b = mod_below a b pos in
+    go q r whole small
+  where
+    go : (q r : ℕ) → q * b + r ≡ a → r < b → q + min 1 r ≡ (a + b - 1) / b
+    go q zero whole small =
+        let e : a + b - 1 ≡ q * b + (b - 1) = omega arith in
+        add-zero q ∙ sym (ap (λ n. n / b) e ∙ div-mul-add q b (b - 1) (omega arith))
+    go q (suc r) whole small =
+        let e : a + b - 1 ≡ (q + 1) * b + r = omega arith in
+        let one : min 1 (suc r) ≡ 1 = omega arith in
+        ap (λ n. q + n) one ∙ sym (ap (λ n. n / b) e ∙ div-mul-add (q + 1) b r (omega arith))
+
+-- a stripe begins within the bytes
+pub begins_within : (k len size i : ℕ) → 0 < k * len → i < stripe_count k len size → i * (k * len) < size
+begins_within k len size i pos h =
+    let below : (size + k * len - 1) / (k * len) * (k * len) ≤ size + k * len - 1 = div-mul-le_self (size + k * len - 1) (k * len) in
+    let more : (i + 1) * (k * len) ≤ (size + k * len - 1) / (k * len) * (k * len) = times (k * len) (i + 1) ((size + k * len - 1) / (k * len)) (omega arith) in
+    let split : (i + 1) * (k * len) ≡ i * (k * len) + k * len = one_more i (k * len) in
+    omega arith
+  where
+    times : (n a b : ℕ) → a ≤ b → a * n ≤ b * n
+    times n a b h = grind arith
+
+    one_more : (i n : ℕ) → (i + 1) * n ≡ i * n + n
+    one_more i n = omega arith

@@ -1,0 +1,48 @@
+ghost use Rattle.std.specs.Prelude.{◌≡◌, ◌≤◌, ◌<◌, length, IfOk};
+ghost use Rattle.ecp_field.specs.Lists.{sums, scaled};
+ghost use Rattle.ecp_code.specs.Rows.{weighted_sum};
+ghost use Rattle.ecp_code.specs.Stripes.{filled, blocks};
+
+use ecp_field::{add, mul};
+use ecp_store::{Block, NoMemory};
+use std::alloc::Global;
+
+/// The sum of the blocks of `len` bytes that `bytes` fill, one for each weight, each times its weight. Where the bytes
+/// end, zeros follow.
+///
+/// Takes memory once, for the result. Each byte is read once, in rising order.
+pub(crate) fn sum_of_blocks(
+    alloc: Global,
+    weights: &[u8],
+    bytes: &[u8],
+    len: usize,
+) -> Result<Block, NoMemory>
+    ensures { IfOk result (λ sum. sum ≡ weighted_sum len weights.now (blocks (length weights.now) len bytes.now)) }
+{
+    let mut sum = vec![in alloc; 0; len]?;
+    let mut rest = bytes;
+    for &w in weights {
+        let (block, after) = rest.split_at(len.min(rest.len()));
+        add_block(&mut sum, w, block);
+        rest = after;
+    }
+    Ok(Block::new(sum))
+}
+
+/// Adds to `sum` a block times `c`. A block that is shorter ends in zeros, which add nothing.
+fn add_block(sum: &mut [u8], c: u8, block: &[u8])
+    requires { length block.now ≤ length sum.old }
+    ensures { sum.new ≡ sums sum.old (scaled c (filled (length sum.old) block.now)) }
+{
+    add_scaled(&mut sum[..block.len()], c, block);
+}
+
+/// Adds to each byte of `dst` the product of `c` and the byte of `src` at its place.
+fn add_scaled(dst: &mut [u8], c: u8, src: &[u8])
+    requires { length dst.old ≡ length src.now }
+    ensures { dst.new ≡ sums dst.old (scaled c src.now) }
+{
+    for (i, &byte) in src.iter().enumerate() {
+        dst[i] = add(dst[i], mul(c, byte));
+    }
+}
