@@ -1,0 +1,29 @@
+use Rattle.std.proofs.Common.{◌≡◌, ◌<◌, ◌∙◌, sym, ap, subst, arith}
+use Rattle.ecp_book.specs.Rules.{meeting}
+use Rattle.ecp_book.proofs.Keeping.{meets_as, keeper_learns_as}
+use Rattle.ecp_book.proofs.book.Book.meet.Goals as goal
+
+pub join_seat-requires : goal.join_seat-requires
+join_seat-requires g c =
+    let i = c.keeper.invariant in
+    let j = c.other.invariant in
+    let named = c.args.self.now.is_named in
+    let some : 0 < g.N.Names.book.words = omega (arith, i.in_range) in
+    let one_log : c.keeper.inside.log ≡ c.other.inside.log =
+    ap (λ k. k.log) c.keeper.view_is ∙ (sym c.requires ∙ (ap (λ k. k.log) (sym c.copy.ensures.copy) ∙ ap (λ k. k.log) (sym c.other.view_is))) in (
+      i.in_book ∙ sym named,
+      j.in_book ∙ sym named,
+      ap (λ m. m.1) j.knows,
+      subst (λ (b : _). 0 < b.words) (sym named) some,
+      meets_as _ _ _ _ _ _ _ (ap (λ m. m.0.log) i.knows ∙ one_log) j.knows,
+    )
+
+pub load-requires : goal.load-requires
+load-requires g c =
+    let i = c.keeper.invariant in
+    let named = c.args.self.now.is_named in
+    let joined = c.join_seat.ensures in (
+      joined.0 ∙ (i.in_book ∙ sym named),
+      subst (λ (b : _). c.keeper.inside.log < b.words) (sym named) i.in_range,
+      keeper_learns_as _ _ _ _ _ _ c.keeper.inside.seat.me.0.items c.other.inside.seat.me.0.items (joined.2 ∙ ap (λ m. (meeting m.0 c.other.inside.seat.me.0.items, m.1)) i.knows),
+    )

@@ -1,0 +1,20 @@
+-- Logs, and what is known of one.
+use Rattle.std.specs.Prelude.{ℕ, List, []}
+use Rattle.atomic_table.specs.Seated.{TableId}
+
+-- the items of a log, the oldest first; an item is a list of whole numbers
+abbrev pub Log : Type 0
+Log = List (List ℕ)
+
+-- what a keeper or a tag knows: the number of its log, and a list of items. A keeper's is the log's whole list, and a tag's is a prefix of that
+pub record Known : Type 0 where
+  pub log : ℕ
+  pub items : Log
+
+-- how many logs a book has
+abbrev pub logs_of : TableId → ℕ
+logs_of book = book.words
+
+-- an empty log
+abbrev pub empty_log : ℕ → Known
+empty_log log = record { log = log; items = [] }

@@ -1,0 +1,28 @@
+//! The book of logs: lists that only grow, and beginnings of them that outlive every lock.
+//!
+//! A book has a fixed number of logs. The keeper of a log has its whole list, and alone adds to it. A tag has a
+//! beginning of that list, and may be copied, sent to other threads and met with the keeper or another tag. The lists
+//! exist in the proofs alone; what threads share is one atomic word a log, its length.
+//!
+//! It stands on `atomic_table` alone. The layer above may rely on this: a tag's list is a prefix of its log's list
+//! whenever the two meet, and of two tags on one log the one is a prefix of the other. No call but `Blank::new` and
+//! `Book::open` takes memory, and none waits.
+#![tactic(auto)]
+
+mod blank;
+mod book;
+mod entered;
+mod keeper;
+mod names;
+mod rule;
+mod steps;
+mod tag;
+mod view;
+
+pub use blank::Blank;
+pub use book::Book;
+pub use entered::Entered;
+pub use keeper::Keeper;
+pub use names::Names;
+pub use std::alloc::AllocError as NoMemory;
+pub use tag::Tag;
