@@ -272,15 +272,19 @@ module _ {S : Type 0} (logs : ℕ) where
   meets_as seat other log v them items same known =
       subst (λ (m : Me S View). Joins Rule seat v other m.0 (meeting v m.0.items) spent) (sym known) (meets seat other log v items same)
 
-  pub keeper_learns_as : (slots seat log word : ℕ) (me : Me S View) (items met : Log) → me ≡ (meeting (keeper_of log items) met, [])
-      → Allows Rule slots seat me word (λ n. n) (λ n w. Learns me.0 w.0 × (w.1 ≡ me.1))
-  keeper_learns_as slots seat log word me items met known =
-      subst (λ (m : Me S View). Allows Rule slots seat m word (λ n. n) (λ n w. Learns m.0 w.0 × (w.1 ≡ m.1))) (sym known) (keeper_learns slots seat log word items met)
+  pub keeper_learns_as : (slots seat log word : ℕ) (now me : Me S View) (items met : Log) → now ≡ (meeting me.0 met, me.1) → me ≡ (keeper_of log items, [])
+      → Allows Rule slots seat now word (λ n. n) (λ n w. Learns now.0 w.0 × (w.1 ≡ now.1))
+  keeper_learns_as slots seat log word now me items met joined known =
+      subst (λ (m : Me S View). Allows Rule slots seat m word (λ n. n) (λ n w. Learns m.0 w.0 × (w.1 ≡ m.1)))
+      (sym (joined ∙ ap (λ (m : Me S View). (meeting m.0 met, m.1)) known))
+      (keeper_learns slots seat log word items met)
 
-  pub tag_learns_as : (slots seat log word : ℕ) (me : Me S View) (items met : Log) → me ≡ (meeting (tag_of log items) met, [])
-      → Allows Rule slots seat me word (λ n. n) (λ n w. Learns me.0 w.0 × (w.1 ≡ me.1))
-  tag_learns_as slots seat log word me items met known =
-      subst (λ (m : Me S View). Allows Rule slots seat m word (λ n. n) (λ n w. Learns m.0 w.0 × (w.1 ≡ m.1))) (sym known) (tag_learns slots seat log word items met)
+  pub tag_learns_as : (slots seat log word : ℕ) (now me : Me S View) (items met : Log) → now ≡ (meeting me.0 met, me.1) → me ≡ (tag_of log items, [])
+      → Allows Rule slots seat now word (λ n. n) (λ n w. Learns now.0 w.0 × (w.1 ≡ now.1))
+  tag_learns_as slots seat log word now me items met joined known =
+      subst (λ (m : Me S View). Allows Rule slots seat m word (λ n. n) (λ n w. Learns m.0 w.0 × (w.1 ≡ m.1)))
+      (sym (joined ∙ ap (λ (m : Me S View). (meeting m.0 met, m.1)) known))
+      (tag_learns slots seat log word items met)
 
   pub tag_ends_as : (slots seat word : ℕ) (me : Me S View) (v : View) → me ≡ (v, []) → Allows Rule slots seat me word (λ n. n) (λ n w. w.0 ≡ spent)
   tag_ends_as slots seat word me v known =

@@ -1,5 +1,5 @@
--- Prefixes of one list.
-use Rattle.std.proofs.Common.{◌≡◌, ◌⊎◌, inl, inr, List, [], ◌∷◌, ◌++◌, refl, ap, sym, ◌∙◌, append_assoc}
+-- Prefixes of one list, for the rule of a book and for the layers above.
+use Rattle.std.proofs.Common.{◌≡◌, ◌⊎◌, inl, inr, ℕ, zero, suc, ◌≤◌, List, [], ◌∷◌, ◌++◌, length, Some, slice_get, refl, ap, sym, ◌∙◌, subst, arith, append_assoc, length-append}
 use mathlib.Core.List.{IsPrefix}
 
 module _ {A : Type 0} where
@@ -21,3 +21,29 @@ module _ {A : Type 0} where
         | inl r ↦ inl (r.0, cc (heads, r.1))
         | inr r ↦ inr (r.0, cc (heads, r.1))
       ]
+
+  pub prefix_length : (xs ys : List A) → IsPrefix xs ys → length xs ≤ length ys
+  prefix_length xs ys p = omega (arith, sym (ap length p.1) ∙ length-append xs p.0)
+
+  -- a prefix as long as the whole is the whole
+  pub prefix_whole : (xs ys : List A) → IsPrefix xs ys → length ys ≤ length xs → xs ≡ ys
+  prefix_whole [] [] p le = refl
+  prefix_whole [] (y ∷ ys) p le = absurd (omega arith)
+  prefix_whole (x ∷ xs) [] p le = absurd (cc (p.1))
+  prefix_whole (x ∷ xs) (y ∷ ys) p le =
+      let rest = prefix_whole xs ys (p.0, cc (p.1)) (omega arith) in cc (p.1, rest)
+
+  -- of two lists that met, the one that is no longer is a prefix of the other
+  pub shorter_is_prefix : (xs ys : List A) → IsPrefix xs ys ⊎ IsPrefix ys xs → length xs ≤ length ys → IsPrefix xs ys
+  shorter_is_prefix xs ys met le =
+      elim met [
+        | inl p ↦ p
+        | inr p ↦ subst (λ (zs : List A). IsPrefix zs ys) (prefix_whole ys xs p le) (prefix_self ys)
+      ]
+
+  -- what stands in a prefix stands in the whole, at the same place
+  pub prefix_get : (xs ys : List A) (k : ℕ) (x : A) → IsPrefix xs ys → slice_get xs k ≡ Some x → slice_get ys k ≡ Some x
+  prefix_get [] ys k x p h = absurd (cc)
+  prefix_get (y ∷ xs) [] k x p h = absurd (cc (p.1))
+  prefix_get (y ∷ xs) (z ∷ ys) zero x p h = cc (p.1, h)
+  prefix_get (y ∷ xs) (z ∷ ys) (suc k) x p h = prefix_get xs ys k x (p.0, cc (p.1)) h

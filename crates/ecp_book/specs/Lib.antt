@@ -1,3 +1,4 @@
 pub mod Logs
 pub mod Names
 pub mod Rules
+pub mod Till

@@ -4,9 +4,10 @@
 //! beginning of that list, and may be copied, sent to other threads and met with the keeper or another tag. The lists
 //! exist in the proofs alone; what threads share is one atomic word a log, its length.
 //!
-//! It stands on `atomic_table` alone. The layer above may rely on this: a tag's list is a prefix of its log's list
-//! whenever the two meet, and of two tags on one log the one is a prefix of the other. No call but `Blank::new` and
-//! `Book::open` takes memory, and none waits.
+//! It stands on `atomic_table` alone. The layer above may rely on this: a tag's list is a prefix of its log's list,
+//! which `meet` shows, and of two tags on one log the list of the one is a prefix of the other's, which `meet_tags`
+//! shows. No call but `Blank::new` and `Book::open` takes memory, and none waits. `tests/till.rt` is a worked caller, and
+//! `proofs/Prefixes.antt` has the lemmas on prefixes that callers need.
 #![tactic(auto)]
 
 mod blank;
@@ -26,3 +27,6 @@ pub use keeper::Keeper;
 pub use names::Names;
 pub use std::alloc::AllocError as NoMemory;
 pub use tag::Tag;
+
+#[cfg(test)]
+mod tests;

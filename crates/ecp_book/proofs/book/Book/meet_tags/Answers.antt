@@ -1,5 +1,4 @@
 use Rattle.std.proofs.Common.{◌≡◌, ◌<◌, ◌∙◌, sym, ap, subst, arith}
-use Rattle.ecp_book.specs.Rules.{meeting}
 use Rattle.ecp_book.proofs.Keeping.{meets_as, tag_learns_as}
 use Rattle.ecp_book.proofs.book.Book.meet_tags.Goals as goal
 
@@ -25,5 +24,5 @@ load-requires g c =
     let joined = c.join_seat.ensures in (
       joined.0 ∙ (i.in_book ∙ sym named),
       subst (λ (b : _). c.a.inside.log < b.words) (sym named) i.in_range,
-      tag_learns_as _ _ _ _ _ _ c.a.inside.seat.me.0.items c.other.inside.seat.me.0.items (joined.2 ∙ ap (λ m. (meeting m.0 c.other.inside.seat.me.0.items, m.1)) i.knows),
+      tag_learns_as _ _ _ _ _ _ _ _ _ joined.2 i.knows,
     )
