@@ -1,8 +1,10 @@
 -- Laws of the numbers of bytes and stripes.
-use Rattle.std.proofs.Common.{◌≡◌, ℕ, zero, suc, ◌+◌, ◌-◌, ◌*◌, ◌/◌, ◌%◌, ◌<◌, ◌≤◌, min, add-zero, ap, sym, ◌∙◌, arith}
+use Rattle.std.proofs.Common.{◌≡◌, ℕ, zero, suc, ◌+◌, ◌-◌, ◌*◌, ◌/◌, ◌%◌, ◌<◌, ◌≤◌, List, [], length, drop, Some, slice_get, min, add-zero, ap, sym, ◌∙◌, arith}
 use Rattle.std.proofs.Math.Nat.{div-mul-le_self}
 use Rattle.std.proofs.lemmas.Nat.{div-mul-add, div-add-mod', mod_below}
-use Rattle.ecp_code.specs.Stripes.{stripe_count}
+use Rattle.std.proofs.lemmas.List.FromFn.{length-map-range_with_len, get_or-map-range_with_len}
+use Rattle.std.proofs.lemmas.Option.{slice_get-get_or}
+use Rattle.ecp_code.specs.Stripes.{blocks, stripes, stripe_count}
 
 -- a quotient that is rounded up
 pub rounded_up : (a b : ℕ) → 0 < b → a / b + min 1 (a % b) ≡ (a + b - 1) / b
@@ -35,3 +37,10 @@ begins_within k len size i pos h =
 
     one_more : (i n : ℕ) → (i + 1) * n ≡ i * n + n
     one_more i n = omega arith
+
+pub slice_get-stripes : (k len : ℕ) (bytes : List ℕ) (i : ℕ) → i < stripe_count k len (length bytes) → slice_get (stripes k len bytes) i ≡ Some (blocks k len (drop (i * (k * len)) bytes))
+slice_get-stripes k len bytes i h =
+    let at = λ (j : ℕ). blocks k len (drop (j * (k * len)) bytes) in
+    let count = stripe_count k len (length bytes) in
+    slice_get-get_or (stripes k len bytes) i [] (omega (arith, length-map-range_with_len at 0 count))
+    ∙ ap Some (get_or-map-range_with_len at 0 count i i [] h (omega arith))

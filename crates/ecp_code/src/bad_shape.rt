@@ -14,8 +14,8 @@ impl fmt::Display for BadShape {
     fn fmt<W: fmt::Write>(&self, f: &mut fmt::Formatter<W>) -> fmt::Result {
         write!(
             f,
-            "no code has k = {} and n = {}: 1 <= k < n <= 16",
-            self.k, self.n
+            "no code has n = {} and k = {}: 1 <= k < n <= 16",
+            self.n, self.k
         )
     }
 }

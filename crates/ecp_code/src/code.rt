@@ -1,8 +1,8 @@
-ghost use Rattle.std.specs.Prelude.{◌≡◌, ◌≤◌, ◌<◌, ◌+◌, ◌-◌, ◌*◌, ◌↔◌, nat_eq, length, take, drop, replicate, All, IfOk, IfErr, IsOk};
-ghost use Rattle.std.specs.List.{IsDistinct, range_with_len};
+ghost use Rattle.std.specs.Prelude.{◌≡◌, ◌≤◌, ◌<◌, ◌+◌, ◌-◌, ◌*◌, ◌↔◌, nat_eq, length, take, drop, replicate, All, slice_get, IfOk, IfErr, IsOk};
+ghost use Rattle.std.specs.List.{IsDistinct};
 ghost use Rattle.ecp_code.specs.Code.{IsShape};
 ghost use Rattle.ecp_code.specs.Rows.{row as row_at};
-ghost use Rattle.ecp_code.specs.Stripes.{blocks, stripe_count, stripe_len};
+ghost use Rattle.ecp_code.specs.Stripes.{blocks, stripe_count, stripe_len, stripes};
 ghost use Rattle.ecp_code.specs.Weights.{weights};
 
 use crate::bad_shape::BadShape;
@@ -36,7 +36,7 @@ impl Model for Code {
 }
 
 impl Code {
-    /// The code with n rows, k of them data.
+    /// The code with n rows, k of them data. Numbers that no code has come back as they are.
     pub fn new(n: u32, k: u32) -> Result<Code, BadShape>
         ensures shape { IsOk result ↔ IsShape n k }
         ensures ok { IfOk result (λ code. (code.n ≡ n) × (code.k ≡ k)) }
@@ -68,7 +68,11 @@ impl Code {
         self.k
     }
 
-    /// The weights of `rows` for row `target`, in the order of `rows`.
+    /// The weights of `rows` for row `target`, in the order of `rows`: any k distinct rows give every row, as the sum
+    /// of these rows, each times its weight.
+    ///
+    /// The weight of row j is the product over each other row m of (target + m) / (j + m), which is Lagrange
+    /// interpolation through the points that the rows stand at.
     pub fn weights(&self, rows: &[u8], target: u8) -> Weights
         requires count { length rows.now ≡ self.now.k }
         requires distinct { IsDistinct nat_eq rows.now }
@@ -86,45 +90,47 @@ impl Code {
         Weights { len, w }
     }
 
-    /// The weights of the data rows for row `row`.
-    fn data_weights(&self, row: u8) -> Weights
-        requires { row < self.now.n }
-        ensures { take self.now.k result.w ≡ weights (range_with_len 0 self.now.k) row }
-    {
-        self.weights(&ROWS[..self.k as usize], row)
-    }
-
-    /// Row `row` of a stripe.
+    /// Row `row` of a stripe. A data row is its block again.
+    ///
+    /// Takes memory once, for the block.
     pub fn encode(&self, alloc: Global, from: &Stripe, row: u8) -> Result<Block, NoMemory>
         requires data { length from.now ≡ self.now.k }
         requires row { row < self.now.n }
         ensures { IfOk result (λ block. block ≡ row_at from.now row) }
     {
-        let weights = self.data_weights(row);
-        sum_of_blocks(
-            alloc,
-            &weights.w[..self.k as usize],
-            from.bytes(),
-            from.block_len() as usize,
-        )
+        self.row_of_blocks(alloc, from.bytes(), from.block_len() as usize, row)
     }
 
-    /// Row `row` of the one stripe that these bytes are: k blocks of ceil(len / k) bytes, the last filled with zeros.
+    /// Row `row` of the one stripe that these bytes are: k blocks of ceil(len / k) bytes, filled with zeros where the
+    /// bytes end.
+    ///
+    /// Reads the bytes in place, and takes memory once, for the block.
     pub fn row_of(&self, alloc: Global, bytes: &[u8], row: u8) -> Result<Block, NoMemory>
         requires { row < self.now.n }
         ensures { IfOk result (λ block. block ≡
             row_at (blocks self.now.k (stripe_len self.now.k (length bytes.now)) bytes.now) row) }
     {
-        let weights = self.data_weights(row);
-        sum_of_blocks(
-            alloc,
-            &weights.w[..self.k as usize],
-            bytes,
-            bytes.len().div_ceil(self.k as usize),
-        )
+        self.row_of_blocks(alloc, bytes, bytes.len().div_ceil(self.k as usize), row)
+    }
+
+    /// Row `row` of the data that `bytes` are, as k blocks of `len` bytes.
+    fn row_of_blocks(
+        &self,
+        alloc: Global,
+        bytes: &[u8],
+        len: usize,
+        row: u8,
+    ) -> Result<Block, NoMemory>
+        requires { row < self.now.n }
+        ensures { IfOk result (λ block. block ≡ row_at (blocks self.now.k len bytes.now) row) }
+    {
+        let weights = self.weights(&ROWS[..self.k as usize], row);
+        sum_of_blocks(alloc, &weights.w[..self.k as usize], bytes, len)
     }
 
     /// Stripe `i` of a file with these bytes: k blocks of `block` bytes, filled with zeros where the bytes end.
+    ///
+    /// Takes memory once, for all blocks.
     pub fn stripe_at(
         &self,
         alloc: Global,
@@ -134,7 +140,9 @@ impl Code {
     ) -> Result<Stripe, NoMemory>
         requires block { 0 < block }
         requires stripe { i < stripe_count self.now.k block (length bytes.now) }
-        ensures { IfOk result (λ stripe. stripe ≡ blocks self.now.k block (drop (i * (self.now.k * block)) bytes.now)) }
+        ensures blocks { IfOk result (λ stripe.
+            stripe ≡ blocks self.now.k block (drop (i * (self.now.k * block)) bytes.now)) }
+        ensures listed { IfOk result (λ stripe. slice_get (stripes self.now.k block bytes.now) i ≡ Some stripe) }
     {
         let size = usize::from(self.k) * block as usize;
         let data = filled_bytes(alloc, &bytes[i as usize * size..], size)?;
@@ -146,6 +154,7 @@ impl Code {
         requires { 0 < block }
         ensures { result ≡ stripe_count self.now.k block len }
     {
-        u64::from(len).div_ceil(u64::from(self.k) * u64::from(block)) as u32
+        let size = u64::from(self.k) * u64::from(block);
+        u64::from(len).div_ceil(size) as u32
     }
 }

@@ -20,3 +20,6 @@ pub use code::Code;
 pub use ecp_store::{Block, NoMemory};
 pub use stripe::Stripe;
 pub use weights::Weights;
+
+#[cfg(test)]
+mod tests;

@@ -1,32 +1,16 @@
 -- The length of a block is the quotient rounded up.
-use Rattle.std.proofs.Common.{◌≡◌, ◌+◌, ◌-◌, ◌/◌, ℕ, List, IfOk, length, take, ap, sym, subst, ◌∙◌, arith}
-use Rattle.std.specs.List.{range_with_len}
-use Rattle.std.proofs.lemmas.List.{length-map}
-use Rattle.std.proofs.lemmas.List.FromFn.{length-range_with_len}
+use Rattle.std.proofs.Common.{◌≡◌, ◌+◌, ◌-◌, ◌/◌, IfOk, length, ap, subst, ◌∙◌, arith}
 use Rattle.ecp_code.specs.Code.{Shape}
-use Rattle.ecp_code.specs.Rows.{weighted_sum, row}
+use Rattle.ecp_code.specs.Rows.{row}
 use Rattle.ecp_code.specs.Stripes.{blocks, stripe_len}
-use Rattle.ecp_code.specs.Weights.{weight, weights}
-use Rattle.ecp_code.proofs.RowLaws.{row-blocks}
 use Rattle.ecp_code.proofs.StripeLaws.{rounded_up}
 use Rattle.ecp_code.proofs.code.Code.row_of.Goals as goal
 
 pub returns : goal.returns
 returns c =
     let k = c.args.self.now.k in
-    let t = c.args.row in
     let bytes = c.args.bytes.now in
-    let made = c.div_ceil.result in
-    let w = c.data_weights-weights.result.w in
     let inside : c.self.inside.k ≡ k = ap (λ (s : Shape). s.k) c.self.view_is in
-    let ws = weights (range_with_len 0 k) t in
-    let are_weights : take c.self.inside.k w ≡ ws = ap (λ n. take n w) inside ∙ c.data_weights-weights.ensures in
-    let len = stripe_len k (length bytes) in
-    let is_len : made ≡ len = c.div_ceil.ensures ∙ rounded_up (length bytes) c.self.inside.k (omega arith) ∙ ap (λ n. (length bytes + n - 1) / n) inside in
-    let count : length ws ≡ k = length-map (range_with_len 0 k) (λ j. weight (range_with_len 0 k) j t) ∙ length-range_with_len 0 k in
-    let same : weighted_sum made (take c.self.inside.k w) (blocks (length (take c.self.inside.k w)) made bytes) ≡ row (blocks k len bytes) t =
-    ap (λ (us : List ℕ). weighted_sum made us (blocks (length us) made bytes)) are_weights
-    ∙ ap (λ n. weighted_sum n ws (blocks (length ws) n bytes)) is_len
-    ∙ ap (λ n. weighted_sum len ws (blocks n len bytes)) count
-    ∙ sym (row-blocks k len bytes t (omega arith)) in
-    subst (λ (x : List ℕ). IfOk c.sum_of_blocks.result (λ block. block ≡ x)) same c.sum_of_blocks.ensures
+    let size : c.div_ceil.result ≡ stripe_len k (length bytes) =
+    c.div_ceil.ensures ∙ rounded_up (length bytes) c.self.inside.k (omega arith) ∙ ap (λ n. (length bytes + n - 1) / n) inside in
+    subst (λ n. IfOk c.row_of_blocks.result (λ block. block ≡ row (blocks k n bytes) c.args.row)) size c.row_of_blocks.ensures

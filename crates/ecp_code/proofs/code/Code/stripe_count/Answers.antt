@@ -6,9 +6,10 @@ use Rattle.ecp_code.proofs.code.Code.stripe_count.Goals as goal
 
 pub returns : goal.returns
 returns c =
-    let k : c.from-2.result ≡ c.args.self.now.k = c.from-2.ensures ∙ ap (λ (s : Shape). s.k) c.self.view_is in
-    let size : c.from-2.result * c.from-3.result ≡ c.args.self.now.k * c.args.block =
-    ap (λ n. n * c.from-3.result) k ∙ ap (λ n. c.args.self.now.k * n) c.from-3.ensures in
-    c.div_ceil.ensures ∙ rounded_up c.from.result (c.from-2.result * c.from-3.result) (grind arith)
-    ∙ ap (λ n. (n + c.from-2.result * c.from-3.result - 1) / (c.from-2.result * c.from-3.result)) c.from.ensures
-    ∙ ap (λ n. (c.args.len + n - 1) / n) size
+    let size = c.from.result * c.from-2.result in
+    let k : c.from.result ≡ c.args.self.now.k = c.from.ensures ∙ ap (λ (s : Shape). s.k) c.self.view_is in
+    let is_size : size ≡ c.args.self.now.k * c.args.block =
+    ap (λ n. n * c.from-2.result) k ∙ ap (λ n. c.args.self.now.k * n) c.from-2.ensures in
+    c.div_ceil.ensures ∙ rounded_up c.from-3.result size (grind arith)
+    ∙ ap (λ n. (n + size - 1) / size) c.from-3.ensures
+    ∙ ap (λ n. (c.args.len + n - 1) / n) is_size
