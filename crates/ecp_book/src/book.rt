@@ -163,7 +163,7 @@ impl<N: Names> Book<N> {
     {
         let Keeper {
             log,
-            len,
+            len: _,
             mut seat,
             of: _,
         } = keeper;
