@@ -6,8 +6,10 @@ use Rattle.std.proofs.lemmas.List.{length-take, length-append, length-replicate,
 use Rattle.std.proofs.lemmas.List.FromFn.{length-map-range_with_len, get_or-map-range_with_len}
 use Rattle.std.proofs.lemmas.Nat.{mul-add-lt, row_fits}
 use Rattle.std.proofs.lemmas.Option.{slice_get-get_or}
-use Rattle.ecp_code.specs.Rows.{block_len}
+use Rattle.ecp_field.specs.Lists.{AreBytes}
+use Rattle.ecp_code.specs.Rows.{block_len, IsData}
 use Rattle.ecp_code.specs.Stripes.{filled, blocks}
+use Rattle.ecp_code.proofs.WeightLaws.{AreBytes-drop}
 
 pub length-filled : (len : ℕ) (xs : List ℕ) → length (filled len xs) ≡ len
 length-filled len xs =
@@ -117,3 +119,21 @@ slice_get-blocks k len xs j h long =
     let none : len - length (drop (j * len) xs) ≡ 0 = simp length-drop (omega arith) in
     slice_get-get_or (blocks k len xs) j [] within
     ∙ ap Some (get_or-blocks k len xs j [] h ∙ ap (λ n. take len (drop (j * len) xs) ++ replicate n 0) none ∙ append-nil (take len (drop (j * len) xs)))
+
+-- ---- blocks of bytes
+
+AreBytes-filled : (len : ℕ) (xs : List ℕ) → AreBytes xs → AreBytes (filled len xs)
+AreBytes-filled len xs bytes i =
+    elim (cases_lt i len) [
+      | inl within ↦ rw (get_or-filled len xs i within) (bytes i)
+      | inr past ↦ rw (get_or_past (filled len xs) i 0 (omega (arith, length-filled len xs))) (omega arith)
+    ]
+
+pub IsData-blocks : (k len : ℕ) (xs : List ℕ) → k ≤ 256 → AreBytes xs → IsData (blocks k len xs)
+IsData-blocks k len xs few bytes = record {
+  few = omega (arith, length-blocks k len xs);
+  even = λ j d h. let pos : 0 < k = omega (arith, length-blocks k len xs) in blocks-lengths k len xs pos j d h;
+  bytes = λ j d h.
+      let within : j < k = omega (arith, length-blocks k len xs) in
+      subst AreBytes (sym (get_or-blocks k len xs j d within)) (AreBytes-filled len (drop (j * len) xs) (AreBytes-drop xs (j * len) bytes));
+}

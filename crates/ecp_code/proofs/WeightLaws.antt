@@ -37,7 +37,7 @@ weight-lt (m ∷ rows) j t b q r =
       | inr apart ↦ rw (weight-other m rows j t apart) (product-lt (factor m j t) (weight rows j t) (factor-lt m j t (b 0) q r apart) rest)
     ]
 
-AreBytes-drop : (xs : List ℕ) (n : ℕ) → AreBytes xs → AreBytes (drop n xs)
+pub AreBytes-drop : (xs : List ℕ) (n : ℕ) → AreBytes xs → AreBytes (drop n xs)
 AreBytes-drop xs n b k = rw (get_or-drop n xs k 0) (b (n + k))
 
 -- the product of some bytes so far and the weight among the rows that are left is the weight among all
@@ -77,7 +77,7 @@ take-range a (suc n) (suc k) h = ap (λ rows. a ∷ rows) (take-range (a + 1) n 
 pub weights_more : (f : ℕ → ℕ) (rows w : List ℕ) (i : ℕ) → i < length rows → i < 16
     → w ≡ map f (take i rows) ++ replicate (16 - i) 0 → set w i (f (get_or rows i 0)) ≡ map f (take (i + 1) rows) ++ replicate (16 - (i + 1)) 0
 weights_more f rows w i h small e =
-    let rest = replicate (16 - (i + 1)) 0 in
+    let rest : List ℕ = replicate (16 - (i + 1)) 0 in
     let left : 16 - i ≡ suc (16 - (i + 1)) = omega arith in
     let front : length (map f (take i rows)) ≡ i = length-map (take i rows) f ∙ length-take-le i rows (omega arith) in
     ap (λ xs. set xs i (f (get_or rows i 0))) (e ∙ ap (λ n. map f (take i rows) ++ replicate n 0) left)

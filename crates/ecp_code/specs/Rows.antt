@@ -1,6 +1,6 @@
-use Rattle.std.specs.Prelude.{ℕ, List, [], ◌∷◌, length, replicate}
+use Rattle.std.specs.Prelude.{◌≡◌, ℕ, ◌≤◌, List, [], ◌∷◌, length, replicate, All}
 use Rattle.std.specs.List.{range_with_len}
-use Rattle.ecp_field.specs.Lists.{sums, scaled}
+use Rattle.ecp_field.specs.Lists.{sums, scaled, AreBytes}
 use Rattle.ecp_code.specs.Weights.{weights}
 
 -- the sum of blocks of len bytes, byte by byte, each scaled by its weight
@@ -17,3 +17,9 @@ block_len (block ∷ blocks) = length block
 -- row t of the stripe whose data are these blocks, rows 0, 1 and so on: interpolation through them
 abbrev pub row : List (List ℕ) → ℕ → List ℕ
 row blocks t = weighted_sum (block_len blocks) (weights (range_with_len 0 (length blocks)) t) blocks
+
+-- blocks that can be the data of a stripe: few enough that each row is a point of its own, of one length, and of bytes
+pub record IsData (blocks : List (List ℕ)) : Type 0 where
+  pub few : length blocks ≤ 256
+  pub even : All (λ block. length block ≡ block_len blocks) blocks
+  pub bytes : All AreBytes blocks

@@ -6,11 +6,13 @@
 //! It stands on `ecp_field`, whose sum and product of bytes it uses, and on `ecp_store` for blocks. The layer above may
 //! rely on this: `Code::new` takes exactly the shapes with 1 <= k < n <= 16; `Code::weights` gives the interpolation
 //! weights of any k distinct rows for any row; `Code::encode` and `Code::row_of` give the row that the data determine;
-//! `Code::stripe_at` and `Code::stripe_count` cut a file into stripes, the last of them filled with zeros.
+//! `Code::stripe_at` and `Code::stripe_count` cut a file into stripes, the last of them filled with zeros;
+//! `data_row_law` says that a data row is its block, and `decoding_law` that any k distinct rows give every row.
 #![tactic(auto)]
 
 mod bad_shape;
 mod code;
+mod laws;
 mod rows;
 mod stripe;
 mod weights;
@@ -18,6 +20,7 @@ mod weights;
 pub use bad_shape::BadShape;
 pub use code::Code;
 pub use ecp_store::{Block, NoMemory};
+pub use laws::{data_row_law, decoding_law};
 pub use stripe::Stripe;
 pub use weights::Weights;
 
