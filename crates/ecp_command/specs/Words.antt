@@ -1,0 +1,19 @@
+-- How the words of a command line spell a command.
+use Rattle.std.specs.Prelude.{◌≡◌, ℕ, ◌<◌, ◌≤◌, List, [], ◌∷◌, map, codes, decimal, String, string_bytes}
+use Rattle.std.specs.declared.alloc.Global.{Global}
+use Rattle.ecp_command.specs.declared.commands.Command.{Command}
+use Rattle.ecp_command.specs.declared.commands.Command.TheVariants.{Run, Mend}
+
+-- the bytes of each word
+abbrev pub texts : List (String Global) → List (List ℕ)
+texts words = map string_bytes words
+
+-- the code has n rows, k of them data, and this is one of the others
+abbrev pub IsRow : ℕ → ℕ → ℕ → Type 0
+IsRow k n row = (1 ≤ k) × (k < n) × (n ≤ 16) × (k ≤ row) × (row < n)
+
+-- the words spell the command
+abbrev pub IsSpelled : List (List ℕ) → Command → Type 0
+IsSpelled words Run = words ≡ codes "run" ∷ []
+IsSpelled words (Mend k n row) = IsRow k n row × (words ≡ codes "mend" ∷ decimal k ∷ decimal n ∷ decimal row ∷ [])
+IsSpelled words _ = ⊥

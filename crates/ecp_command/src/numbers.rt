@@ -1,0 +1,23 @@
+ghost use Rattle.std.specs.Prelude.{◌≡◌, ◌≢◌, ℕ, ◌<◌, ◌^◌, IfSome, IfNone, decimal};
+
+use itoa::Buffer;
+
+/// The number that a text spells in decimal digits, without a sign and without a leading zero unless
+/// the number is 0. None where the text spells no number below 2^32.
+pub(crate) fn number(text: &[u8]) -> Option<u32>
+    ensures some { IfSome result (λ n. text.now ≡ decimal n) }
+    ensures none { IfNone result ((n : ℕ) → n < 2 ^ 32 → text.now ≢ decimal n) }
+{
+    let Ok(digits) = str::from_utf8(text) else {
+        return None;
+    };
+    let Ok(n) = digits.parse::<u32>() else {
+        return None;
+    };
+    let mut buffer = Buffer::new();
+    if buffer.format(n).as_bytes() == text {
+        Some(n)
+    } else {
+        None
+    }
+}

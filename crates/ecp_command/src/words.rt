@@ -1,0 +1,34 @@
+ghost use Rattle.std.specs.Prelude.{◌≡◌, ◌≤◌, ◌<◌, ◌↔◌, IsTrue, IfSome, IfNone, string_bytes};
+ghost use Rattle.ecp_command.specs.declared.commands.Command.{Command};
+ghost use Rattle.ecp_command.specs.Words.{IsSpelled, IsRow, texts};
+
+use crate::commands::Command;
+use crate::numbers::number;
+
+/// What the words of a command line ask for, or None where they are none of the forms.
+pub fn command(words: &[String]) -> Option<Command<'_>>
+    ensures some { IfSome result (IsSpelled (texts words.now)) }
+    ensures none { IfNone result ((c : Command) → ¬ IsSpelled (texts words.now) c) }
+{
+    match words {
+        [word] if word.as_str() == "run" => Some(Command::Run),
+        [word, k, n, row] if word.as_str() == "mend" => {
+            let k = number(k.as_bytes())?;
+            let n = number(n.as_bytes())?;
+            let row = number(row.as_bytes())?;
+            if is_row(k, n, row) {
+                Some(Command::Mend { k, n, row })
+            } else {
+                None
+            }
+        }
+        _ => None,
+    }
+}
+
+// Whether the row is one that can be rebuilt under an (n, k) code.
+fn is_row(k: u32, n: u32, row: u32) -> bool
+    ensures { IsTrue result ↔ IsRow k n row }
+{
+    1 <= k && k < n && n <= 16 && k <= row && row < n
+}
