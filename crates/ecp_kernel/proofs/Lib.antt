@@ -1,0 +1,4 @@
+mod Parts
+mod Lanes
+mod PlaneLemmas
+mod NibbleLemmas
