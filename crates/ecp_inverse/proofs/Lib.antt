@@ -1,0 +1,4 @@
+pub mod Totals
+mod RowZeros
+mod RowLaws
+mod Inverses
