@@ -58,7 +58,7 @@ weighted_sum-nested len w g (s ∷ points) js bs weigh even bytes =
 
 -- ---- the points that rows stand at
 
-Points-from_distinct : (rows : List ℕ) → IsDistinct nat_eq rows → AreBytes rows → Points rows
+pub Points-from_distinct : (rows : List ℕ) → IsDistinct nat_eq rows → AreBytes rows → Points rows
 unfolding IsDistinct
 Points-from_distinct [] distinct bytes = tt
 Points-from_distinct (s ∷ rows) distinct bytes = (bytes 0, (apart s rows distinct.0, Points-from_distinct rows distinct.1 (λ k. bytes (suc k))))
@@ -72,7 +72,7 @@ others-above : (j a n : ℕ) → j < a → others j (range_with_len a n) ≡ n
 others-above j a zero h = refl
 others-above j a (suc n) h = others-other j a (range_with_len (a + 1) n) (λ e. omega arith) ∙ ap suc (others-above j (a + 1) n (omega arith))
 
-others-range : (j a n : ℕ) → a ≤ j → j < a + n → others j (range_with_len a n) + 1 ≡ n
+pub others-range : (j a n : ℕ) → a ≤ j → j < a + n → others j (range_with_len a n) + 1 ≡ n
 others-range j a zero low high = absurd (omega arith)
 others-range j a (suc n) low high =
     elim (cases_eq a j) [

@@ -1,7 +1,9 @@
 pub mod BlockLaws
 pub mod DataLaws
 pub mod DecodeLaws
+pub mod HelperLaws
 pub mod Interpolation
+pub mod MatrixLaws
 pub mod RowLaws
 pub mod StripeLaws
 pub mod WeightLaws

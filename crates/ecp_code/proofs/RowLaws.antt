@@ -1,11 +1,11 @@
 -- Laws of weighted sums of blocks.
 use Rattle.std.proofs.Common.{◌≡◌, ℕ, zero, suc, ◌+◌, ◌-◌, ◌*◌, ◌^◌, ◌<◌, ◌≤◌, List, [], ◌∷◌, ◌++◌, length, get_or, take, drop, replicate, min, refl, ap, sym, ◌∙◌, arith}
 use Rattle.std.specs.List.{range_with_len, AllByRecursion}
-use Rattle.std.proofs.lemmas.List.{length-replicate, length-drop, length-take-le, take_all, take-append-drop, map-append, ext_get_or, drop_more, drop_all, drop_min}
-use Rattle.ecp_field.specs.Field.{byte_sum, byte_product}
+use Rattle.std.proofs.lemmas.List.{length-replicate, length-drop, length-take-le, take_all, take-append-drop, map-append, drop_more, drop_all, drop_min}
+use Rattle.ecp_field.specs.Field.{byte_product}
 use Rattle.ecp_field.specs.Lists.{sums, scaled}
 use Rattle.ecp_field.proofs.FieldLaws.{product-zero_right}
-use Rattle.ecp_field.proofs.ListLaws.{length-sums, length-scaled, get_or-sums, get_or-scaled, sums_assoc, sums_comm, sums-zeros, sums-append}
+use Rattle.ecp_field.proofs.ListLaws.{length-sums, length-scaled, sums_assoc, sums_comm, sums-zeros, sums-append}
 use Rattle.ecp_code.specs.Weights.{weights}
 use Rattle.ecp_code.specs.Rows.{weighted_sum, block_len, row}
 use Rattle.ecp_code.specs.Stripes.{filled, blocks}
@@ -84,12 +84,3 @@ sums_front sum block c h p =
     ∙ sym (sums-append front back (scaled c block) (replicate rest 0) front_len)
     ∙ ap (λ s. sums s (scaled c block ++ replicate rest 0)) (take-append-drop n sum)
     ∙ ap (sums sum) (sym whole)
-
--- the sums of two lists, byte by byte
-pub sums-scaled_by_items : (new old src : List ℕ) (c : ℕ) → length new ≡ length old → length old ≡ length src
-    → ((k : ℕ) → k < length src → get_or new k 0 ≡ byte_sum (get_or old k 0) (byte_product c (get_or src k 0))) → new ≡ sums old (scaled c src)
-sums-scaled_by_items new old src c e f items =
-    let lens : length old ≡ length (scaled c src) = f ∙ sym (length-scaled c src) in
-    ext_get_or 0 new (sums old (scaled c src)) (e ∙ sym (length-sums old (scaled c src) lens)) (λ k h.
-    let within : k < length src = omega arith in
-    items k within ∙ ap (byte_sum (get_or old k 0)) (sym (get_or-scaled c src k within)) ∙ sym (get_or-sums old (scaled c src) k lens))

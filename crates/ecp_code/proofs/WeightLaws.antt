@@ -1,14 +1,15 @@
 -- Laws of interpolation weights, and of the lists of rows that they are for.
-use Rattle.std.proofs.Common.{◌≡◌, ◌≢◌, ℕ, zero, suc, ◌+◌, ◌^◌, ◌<◌, ◌≤◌, true, false, eqb, nat_eq, List, [], ◌∷◌, length, get_or, set, take, drop, map, replicate, ◌++◌, ◌-◌, bit_xor, refl, ap, sym, ◌∙◌, inl, inr, arith, eq-eqb}
+use Rattle.std.proofs.Common.{◌≡◌, ◌≢◌, ℕ, zero, suc, ◌+◌, ◌^◌, ◌<◌, ◌≤◌, true, false, eqb, nat_eq, List, [], ◌∷◌, length, get_or, set, take, drop, map, replicate, ◌-◌, bit_xor, refl, ap, sym, ◌∙◌, inl, inr, arith, eq-eqb}
 use Rattle.std.specs.List.{range_with_len, IsDistinct, AllByRecursion}
 use Rattle.std.specs.Int.Bits.{xor_zero_l}
 use Rattle.std.proofs.lemmas.Bool.{cases_eq, ne_eqb}
-use Rattle.std.proofs.lemmas.List.{drop_more, get_or-drop, take_more, length-map, length-take-le, set_at, map-append, append_assoc}
+use Rattle.std.proofs.lemmas.List.{drop_more, get_or-drop, length-map, length-take-le, length-drop, length-replicate, get_or-take, get_or-map, get_or-replicate, get_or-set_same, get_or-set_other, ext_get_or}
+use Rattle.std.proofs.lemmas.List.FromFn.{get_or-map-range_with_len}
 use Rattle.ecp_field.specs.Field.{byte_sum, byte_product, byte_quotient}
 use Rattle.ecp_field.specs.Lists.{AreBytes}
 use Rattle.ecp_field.proofs.Exclusive.{xor_twice}
 use Rattle.ecp_field.proofs.FieldLaws.{sum-lt, product-lt, quotient-lt, product_assoc}
-use Rattle.ecp_code.specs.Weights.{weight}
+use Rattle.ecp_code.specs.Weights.{weight, weights}
 
 -- two rows differ by a byte that is not 0
 pub sum_apart : (a b : ℕ) → a ≢ b → byte_sum a b ≢ 0
@@ -72,16 +73,32 @@ take-range a n zero h = refl
 take-range a zero (suc k) h = absurd (omega arith)
 take-range a (suc n) (suc k) h = ap (λ rows. a ∷ rows) (take-range (a + 1) n k (omega arith))
 
--- ---- the weights of all rows, written one after another
+-- ---- an array of one weight for each row, and zeros past them
 
-pub weights_more : (f : ℕ → ℕ) (rows w : List ℕ) (i : ℕ) → i < length rows → i < 16
-    → w ≡ map f (take i rows) ++ replicate (16 - i) 0 → set w i (f (get_or rows i 0)) ≡ map f (take (i + 1) rows) ++ replicate (16 - (i + 1)) 0
-weights_more f rows w i h small e =
-    let rest : List ℕ = replicate (16 - (i + 1)) 0 in
-    let left : 16 - i ≡ suc (16 - (i + 1)) = omega arith in
-    let front : length (map f (take i rows)) ≡ i = length-map (take i rows) f ∙ length-take-le i rows (omega arith) in
-    ap (λ xs. set xs i (f (get_or rows i 0))) (e ∙ ap (λ n. map f (take i rows) ++ replicate n 0) left)
-    ∙ set_at (map f (take i rows)) 0 rest (f (get_or rows i 0)) i front
-    ∙ sym (append_assoc (map f (take i rows)) (f (get_or rows i 0) ∷ []) rest)
-    ∙ ap (λ xs. xs ++ rest) (sym (map-append f (take i rows) (get_or rows i 0 ∷ [])))
-    ∙ ap (λ xs. map f xs ++ rest) (sym (take_more rows i 0 h))
+pub take-by_items : (f : ℕ → ℕ) (rows w : List ℕ) → length rows ≤ length w → ((i : ℕ) → i < length rows → get_or w i 0 ≡ f (get_or rows i 0)) → take (length rows) w ≡ map f rows
+take-by_items f rows w long items =
+    let count : length (take (length rows) w) ≡ length rows = length-take-le (length rows) w long in
+    ext_get_or 0 (take (length rows) w) (map f rows) (count ∙ sym (length-map rows f)) (λ i h.
+    let within : i < length rows = omega arith in
+    get_or-take (length rows) w i 0 within ∙ items i within ∙ sym (get_or-map f rows i 0 0 within))
+
+pub drop-zeros : (k n : ℕ) (w : List ℕ) → length w ≡ n → ((i : ℕ) → k ≤ i → get_or w i 0 ≡ 0) → drop k w ≡ replicate (n - k) 0
+drop-zeros k n w count zeros =
+    let left : length (drop k w) ≡ n - k = length-drop k w ∙ ap (λ m. m - k) count in
+    ext_get_or 0 (drop k w) (replicate (n - k) 0) (left ∙ sym (length-replicate (n - k) 0)) (λ i h.
+    let within : i < n - k = omega arith in
+    get_or-drop k w i 0 ∙ zeros (k + i) (omega arith) ∙ sym (get_or-replicate (n - k) i 0 0 within))
+
+pub get_or-weights : (k t j : ℕ) → j < k → get_or (weights (range_with_len 0 k) t) j 0 ≡ weight (range_with_len 0 k) j t
+get_or-weights k t j h = get_or-map-range_with_len (λ j. weight (range_with_len 0 k) j t) 0 k j j 0 h (omega arith)
+
+-- a write at i, after which what holds of the items below i holds of i too
+pub set-done : (f : ℕ → ℕ) (w : List ℕ) (i v : ℕ) → i < length w → ((j : ℕ) → j < i → get_or w j 0 ≡ f j) → v ≡ f i → (j : ℕ) → j < i + 1 → get_or (set w i v) j 0 ≡ f j
+set-done f w i v h before here j below =
+    elim (cases_eq j i) [
+      | inl same ↦ ap (λ n. get_or (set w i v) n 0) same ∙ get_or-set_same w i v 0 h ∙ here ∙ ap f (sym same)
+      | inr apart ↦ get_or-set_other w i j v 0 apart ∙ before j (omega arith)
+    ]
+
+pub set-rest : (w : List ℕ) (i v : ℕ) → ((j : ℕ) → i ≤ j → get_or w j 0 ≡ 0) → (j : ℕ) → i + 1 ≤ j → get_or (set w i v) j 0 ≡ 0
+set-rest w i v rest j above = get_or-set_other w i j v 0 (λ e. omega arith) ∙ rest j (omega arith)

@@ -1,4 +1,4 @@
-use Rattle.std.specs.Prelude.{◌≡◌, ℕ, ◌≤◌, List, [], ◌∷◌, length, replicate, All}
+use Rattle.std.specs.Prelude.{◌≡◌, ℕ, ◌+◌, ◌≤◌, nat_lt, if◌then◌else◌, List, [], ◌∷◌, length, map, replicate, All}
 use Rattle.std.specs.List.{range_with_len}
 use Rattle.ecp_field.specs.Lists.{sums, scaled, AreBytes}
 use Rattle.ecp_code.specs.Weights.{weights}
@@ -23,3 +23,7 @@ pub record IsData (blocks : List (List ℕ)) : Type 0 where
   pub few : length blocks ≤ 256
   pub even : All (λ block. length block ≡ block_len blocks) blocks
   pub bytes : All AreBytes blocks
+
+-- the first k rows of a stripe other than row t, in rising order
+abbrev pub other_rows : ℕ → ℕ → List ℕ
+other_rows k t = map (λ i. if nat_lt i t then i else i + 1) (range_with_len 0 k)

@@ -6,15 +6,14 @@ ghost use Rattle.ecp_code.specs.Stripes.{blocks, stripe_count, stripe_len, strip
 ghost use Rattle.ecp_code.specs.Weights.{weights};
 
 use crate::bad_shape::BadShape;
+use crate::chosen::{inverse_of, times_column};
+use crate::data_weights::data_weights;
 use crate::rows::sum_of_blocks;
 use crate::stripe::{Stripe, filled_bytes};
-use crate::weights::{Weights, weight};
+use crate::weights::Weights;
 use ecp_store::{Block, NoMemory};
 use std::alloc::Global;
 use std::marker::Model;
-
-/// The rows of a stripe that may be data: as many as a code of 16 rows has.
-const ROWS: [u8; 16] = [0, 1, 2, 3, 4, 5, 6, 7, 8, 9, 10, 11, 12, 13, 14, 15];
 
 /// An (n, k) Reed-Solomon code: a stripe has n rows, of which rows 0 to k - 1 are data. 1 <= k < n <= 16.
 #[derive(Clone, Copy, Debug, PartialEq, Eq)]
@@ -72,7 +71,8 @@ impl Code {
     /// of these rows, each times its weight.
     ///
     /// The weight of row j is the product over each other row m of (target + m) / (j + m), which is Lagrange
-    /// interpolation through the points that the rows stand at.
+    /// interpolation through the points that the rows stand at. It comes from the data weights of the target, times the
+    /// inverse of the matrix of the rows' own data weights. Takes no memory.
     pub fn weights(&self, rows: &[u8], target: u8) -> Weights
         requires count { length rows.now ≡ self.now.k }
         requires distinct { IsDistinct nat_eq rows.now }
@@ -82,12 +82,14 @@ impl Code {
         ensures weights { take self.now.k result.w ≡ weights rows.now target }
         ensures rest { drop self.now.k result.w ≡ replicate (16 - self.now.k) 0 }
     {
-        let len = self.k;
+        let k = self.k;
+        let inverse = inverse_of(rows);
+        let data = data_weights(k, target);
         let mut w = [0; 16];
-        for (i, &row) in rows.iter().enumerate() {
-            w[i] = weight(rows, row, target);
+        for i in 0..k {
+            w[i as usize] = times_column(&data[..k as usize], &inverse, i);
         }
-        Weights { len, w }
+        Weights { len: k, w }
     }
 
     /// Row `row` of a stripe. A data row is its block again.
@@ -124,8 +126,8 @@ impl Code {
         requires { row < self.now.n }
         ensures { IfOk result (λ block. block ≡ row_at (blocks self.now.k len bytes.now) row) }
     {
-        let weights = self.weights(&ROWS[..self.k as usize], row);
-        sum_of_blocks(alloc, &weights.w[..self.k as usize], bytes, len)
+        let weights = data_weights(self.k, row);
+        sum_of_blocks(alloc, &weights[..self.k as usize], bytes, len)
     }
 
     /// Stripe `i` of a file with these bytes: k blocks of `block` bytes, filled with zeros where the bytes end.

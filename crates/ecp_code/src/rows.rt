@@ -3,7 +3,7 @@ ghost use Rattle.ecp_field.specs.Lists.{sums, scaled};
 ghost use Rattle.ecp_code.specs.Rows.{weighted_sum};
 ghost use Rattle.ecp_code.specs.Stripes.{filled, blocks};
 
-use ecp_field::{add, mul};
+use ecp_kernel::mul_add_into;
 use ecp_store::{Block, NoMemory};
 use std::alloc::Global;
 
@@ -30,19 +30,9 @@ pub(crate) fn sum_of_blocks(
 }
 
 /// Adds to `sum` a block times `c`. A block that is shorter ends in zeros, which add nothing.
-fn add_block(sum: &mut [u8], c: u8, block: &[u8])
+pub(crate) fn add_block(sum: &mut [u8], c: u8, block: &[u8])
     requires { length block.now ≤ length sum.old }
     ensures { sum.new ≡ sums sum.old (scaled c (filled (length sum.old) block.now)) }
 {
-    add_scaled(&mut sum[..block.len()], c, block);
-}
-
-/// Adds to each byte of `dst` the product of `c` and the byte of `src` at its place.
-fn add_scaled(dst: &mut [u8], c: u8, src: &[u8])
-    requires { length dst.old ≡ length src.now }
-    ensures { dst.new ≡ sums dst.old (scaled c src.now) }
-{
-    for (i, &byte) in src.iter().enumerate() {
-        dst[i] = add(dst[i], mul(c, byte));
-    }
+    mul_add_into(&mut sum[..block.len()], c, block);
 }

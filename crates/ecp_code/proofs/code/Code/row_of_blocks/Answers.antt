@@ -1,6 +1,6 @@
--- The data rows are the rows from 0 on, and the row is the sum by their weights.
-use Rattle.std.proofs.Common.{◌≡◌, ◌≤◌, nat_eq, ℕ, List, IfOk, length, take, ap, sym, subst, ◌∙◌, arith}
-use Rattle.std.specs.List.{range_with_len, IsDistinct}
+-- The row is the sum of the data by their weights.
+use Rattle.std.proofs.Common.{◌≡◌, ℕ, List, IfOk, length, take, ap, sym, subst, ◌∙◌, arith}
+use Rattle.std.specs.List.{range_with_len}
 use Rattle.std.proofs.lemmas.List.{length-map}
 use Rattle.std.proofs.lemmas.List.FromFn.{length-range_with_len}
 use Rattle.ecp_code.specs.Code.{Shape}
@@ -8,13 +8,7 @@ use Rattle.ecp_code.specs.Rows.{weighted_sum, row}
 use Rattle.ecp_code.specs.Stripes.{blocks}
 use Rattle.ecp_code.specs.Weights.{weight, weights}
 use Rattle.ecp_code.proofs.RowLaws.{row-blocks}
-use Rattle.ecp_code.proofs.WeightLaws.{range-distinct, take-range}
 use Rattle.ecp_code.proofs.code.Code.row_of_blocks.Goals as goal
-
-pub weights-weights-requires-clause-distinct : goal.weights-weights-requires-clause-distinct
-weights-weights-requires-clause-distinct c =
-    let within : c.self.inside.k ≤ 16 = omega arith in
-    subst (IsDistinct nat_eq) (sym (take-range 0 16 c.self.inside.k within)) (range-distinct 0 c.self.inside.k)
 
 pub returns : goal.returns
 returns c =
@@ -22,13 +16,10 @@ returns c =
     let t = c.args.row in
     let len = c.args.len in
     let bytes = c.args.bytes.now in
-    let w = c.weights-weights.result.w in
+    let w = c.data_weights-weights.result in
     let inside : c.self.inside.k ≡ k = ap (λ (s : Shape). s.k) c.self.view_is in
-    let within : k ≤ 16 = omega arith in
     let ws = weights (range_with_len 0 k) t in
-    let are_weights : take c.self.inside.k w ≡ ws =
-    ap (λ n. take n w) inside ∙ c.weights-weights.ensures.weights ∙ ap (λ n. weights (take n (range_with_len 0 16)) t) inside
-    ∙ ap (λ (rows : List ℕ). weights rows t) (take-range 0 16 k within) in
+    let are_weights : take c.self.inside.k w ≡ ws = c.data_weights-weights.ensures.weights ∙ ap (λ n. weights (range_with_len 0 n) t) inside in
     let count : length ws ≡ k = length-map (range_with_len 0 k) (λ j. weight (range_with_len 0 k) j t) ∙ length-range_with_len 0 k in
     let same : weighted_sum len (take c.self.inside.k w) (blocks (length (take c.self.inside.k w)) len bytes) ≡ row (blocks k len bytes) t =
     ap (λ (us : List ℕ). weighted_sum len us (blocks (length us) len bytes)) are_weights
