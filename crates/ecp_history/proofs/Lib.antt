@@ -1,0 +1,9 @@
+pub mod EntryLaws
+pub mod ItemLaws
+pub mod LegalLaws
+pub mod StripeLaws
+pub mod LossLaws
+pub mod FollowLaws
+pub mod PlanLaws
+pub mod TextLaws
+pub mod LineLaws
