@@ -8,9 +8,9 @@ use Rattle.ecp_command.specs.declared.commands.Command.TheVariants.{Run, Mend}
 abbrev pub texts : List (String Global) → List (List ℕ)
 texts words = map string_bytes words
 
--- the code has n rows, k of them data, and this is one of the others
+-- the code has n rows, k of them data, and this is one of its rows
 abbrev pub IsRow : ℕ → ℕ → ℕ → Type 0
-IsRow k n row = (1 ≤ k) × (k < n) × (n ≤ 16) × (k ≤ row) × (row < n)
+IsRow k n row = (1 ≤ k) × (k < n) × (n ≤ 16) × (row < n)
 
 -- the words spell the command
 abbrev pub IsSpelled : List (List ℕ) → Command → Type 0

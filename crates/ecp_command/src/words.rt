@@ -30,5 +30,5 @@ pub fn command(words: &[String]) -> Option<Command<'_>>
 fn is_row(k: u32, n: u32, row: u32) -> bool
     ensures { IsTrue result ↔ IsRow k n row }
 {
-    1 <= k && k < n && n <= 16 && k <= row && row < n
+    1 <= k && k < n && n <= 16 && row < n
 }

@@ -1,0 +1,347 @@
+use super::{Call, Command, Head, Input, Refusal, Setting, command, read_input};
+use std::alloc::{AllocError, Global};
+use std::test::Fail;
+
+const HEAD: &str = "k = 2\nn = 3\nnodes = 3\nblock = 1\n---\n";
+
+// What an input is refused for, or None where it is accepted.
+fn refusal(alloc: Global, input: &[u8]) -> Option<Refusal> {
+    if input.len() > 16_777_216 {
+        return None;
+    }
+    read_input(alloc, input).err()
+}
+
+// The same of a script under a head of four keys.
+fn script_refusal(alloc: Global, script: &str) -> Result<Option<Refusal>, AllocError> {
+    let input = format!(in alloc; "{HEAD}{script}")?;
+    Ok(refusal(alloc, input.as_bytes()))
+}
+
+// The head, and then this line so many times.
+fn repeated(alloc: Global, head: &str, line: &str, times: u32) -> Result<String, AllocError> {
+    let mut input = String::from_str(alloc, head)?;
+    for _ in 0..times {
+        input.push_str(line)?;
+    }
+    Ok(input)
+}
+
+fn accepted(alloc: Global, input: &str) -> Result<Input, Fail> {
+    if input.len() > 16_777_216 {
+        return Err(Fail::from("too long"));
+    }
+    Ok(read_input(alloc, input.as_bytes())?)
+}
+
+#[test]
+fn reads_the_words_of_a_command(rt: HostRuntime) -> Result<(), Fail> {
+    let alloc = rt.alloc();
+    let mend = Command::Mend { k: 2, n: 3, row: 2 };
+    let data = Command::Mend { k: 2, n: 3, row: 0 };
+    let widest = Command::Mend {
+        k: 15,
+        n: 16,
+        row: 15,
+    };
+    for (line, want) in [
+        ("run", Some(Command::Run)),
+        ("mend 2 3 2", Some(mend)),
+        ("mend 15 16 15", Some(widest)),
+        ("mend 2 3 0", Some(data)),
+        ("mend 2 3 3", None),
+        ("mend 3 3 3", None),
+        ("mend 0 3 2", None),
+        ("mend 16 17 16", None),
+        ("mend 02 3 2", None),
+        ("mend +2 3 2", None),
+        ("mend 2 3", None),
+        ("mend 2 3 2 2", None),
+        ("run run", None),
+        ("Run", None),
+        ("check", None),
+        ("soak 0", None),
+        ("run-dir a", None),
+    ] {
+        let mut words = Vec::new(alloc);
+        for word in line.split(' ') {
+            words.push(String::from_str(alloc, word)?)?;
+        }
+        assert_eq!(rt; command(&words), want, "at {line}");
+    }
+    assert_eq!(rt; command(&[]), None);
+    Ok(())
+}
+
+#[test]
+fn refuses_a_head_by_its_first_fault(rt: HostRuntime) {
+    let alloc = rt.alloc();
+    for (input, want) in [
+        ("", Refusal::NoRule),
+        ("k = 2\nn = 3\nnodes = 3\nblock = 1\n", Refusal::NoRule),
+        ("k =\n", Refusal::NoRule),
+        ("k = 2\n ---\n", Refusal::NoRule),
+        ("k = 2\n---\r\n", Refusal::NoRule),
+        ("k =\n---\nfetch a 0\n", Refusal::NotToml),
+        ("k = 2\nk = 2\n---\n", Refusal::NotToml),
+        ("---\n", Refusal::Key(Setting::K)),
+        (
+            "n = 3\nnodes = 3\nblock = 1\n---\n",
+            Refusal::Key(Setting::K),
+        ),
+        ("x = 1\n---\n", Refusal::Key(Setting::K)),
+        (
+            "k = \"2\"\nn = 3\nnodes = 3\nblock = 1\n---\n",
+            Refusal::Key(Setting::K),
+        ),
+        (
+            "k = 2.0\nn = 3\nnodes = 3\nblock = 1\n---\n",
+            Refusal::Key(Setting::K),
+        ),
+        (
+            "k = 0\nn = 3\nnodes = 3\nblock = 1\n---\n",
+            Refusal::Key(Setting::K),
+        ),
+        (
+            "k = 16\nn = 17\nnodes = 17\nblock = 1\n---\n",
+            Refusal::Key(Setting::K),
+        ),
+        (
+            "k = 2\nn = 2\nnodes = 3\nblock = 1\n---\n",
+            Refusal::Key(Setting::N),
+        ),
+        (
+            "k = 2\nn = 17\nnodes = 17\nblock = 1\n---\n",
+            Refusal::Key(Setting::N),
+        ),
+        (
+            "k = 2\nn = 3\nnodes = 2\nblock = 1\n---\n",
+            Refusal::Key(Setting::Nodes),
+        ),
+        (
+            "k = 2\nn = 3\nnodes = 33\nblock = \"\"\n---\n",
+            Refusal::Key(Setting::Nodes),
+        ),
+        (
+            "k = 2\nn = 3\nnodes = 3\nblock = 0\n---\n",
+            Refusal::Key(Setting::Block),
+        ),
+        (
+            "k = 2\nn = 3\nnodes = 3\nblock = 65537\n---\n",
+            Refusal::Key(Setting::Block),
+        ),
+    ] {
+        assert_eq!(rt; refusal(alloc, input.as_bytes()), Some(want), "at {input}");
+    }
+    assert_eq!(rt; refusal(alloc, b"\xff\n---\n"), Some(Refusal::NotToml));
+}
+
+#[test]
+fn refuses_a_setting_with_a_default(rt: HostRuntime) -> Result<(), Fail> {
+    let alloc = rt.alloc();
+    for (line, want) in [
+        ("slice = 0", Refusal::Key(Setting::Slice)),
+        ("slice = 6", Refusal::Key(Setting::Slice)),
+        ("window = 0", Refusal::Key(Setting::Window)),
+        ("window = 17", Refusal::Key(Setting::Window)),
+        ("workers = -1", Refusal::Key(Setting::Workers)),
+        ("workers = 9", Refusal::Key(Setting::Workers)),
+        ("path = \"cyclic\"", Refusal::Key(Setting::Path)),
+        ("path = 1", Refusal::Key(Setting::Path)),
+        ("Path = \"linear\"", Refusal::UnknownKey),
+        ("x = 1\nworkers = 9", Refusal::Key(Setting::Workers)),
+        ("[k2]", Refusal::UnknownKey),
+    ] {
+        let input = format!(in alloc; "k = 2\nn = 3\nnodes = 3\nblock = 5\n{line}\n---\nfetch\n")?;
+        assert_eq!(rt; refusal(alloc, input.as_bytes()), Some(want), "at {line}");
+    }
+    Ok(())
+}
+
+#[test]
+fn refuses_a_line_without_a_form(rt: HostRuntime) -> Result<(), Fail> {
+    let alloc = rt.alloc();
+    for line in [
+        "fetch a 0",
+        "put a hex 414",
+        "put a hex 4g",
+        "put a hex",
+        "put a hex ",
+        "put a  hex 41",
+        "put a hex 41 ",
+        "put  a hex 41",
+        "put a hex --",
+        "put a/b hex 41",
+        "put a Hex 41",
+        "put a gen 0 1",
+        "read a 0\r",
+        " read a 0",
+        "read a 0 ",
+        "read a  0",
+        "read a 00",
+        "read a 01",
+        "read a +1",
+        "read a -1",
+        "read a 4294967296",
+        "read a",
+        "read",
+        "lose",
+        "lose ",
+        "lose 1 2",
+        "session 8",
+        "session 08",
+        "session",
+        "barrier",
+        "join 0",
+        "rebuild 0 1",
+        "sum a 0",
+        "cat a",
+        "stat a",
+        "Read a 0",
+        "read aaaaaaaaaabbbbbbbbbbccccccccccddddddddddeeeeeeeeeeffffffffff12345 0",
+    ] {
+        assert_eq!(rt;
+            script_refusal(alloc, line)?,
+            Some(Refusal::Line(6)),
+            "at {line}"
+        );
+    }
+    assert_eq!(rt;
+        script_refusal(alloc, "# one\n\nfetch\n")?,
+        Some(Refusal::Line(8))
+    );
+    assert_eq!(rt;
+        script_refusal(alloc, "session 1\nread a 0\nsession 0\nread a 0\n")?,
+        Some(Refusal::Line(9))
+    );
+    Ok(())
+}
+
+#[test]
+fn keeps_each_limit_and_refuses_one_past_it(rt: HostRuntime) -> Result<(), Fail> {
+    let alloc = rt.alloc();
+    let small = "k = 1\nn = 2\nnodes = 2\nblock = 1\n---\n";
+    let large = "k = 1\nn = 16\nnodes = 16\nblock = 65536\n---\n";
+    let put = repeated(alloc, "put a hex ", "00", 4096)?;
+    let put = repeated(alloc, put.as_str(), "\n", 1)?;
+    for (head, line, most) in [
+        (small, "lose 0\n", 10_000),
+        (large, "read a 0\n", 1_024),
+        (large, "put a hex 00\n", 1_024),
+        (small, put.as_str(), 16),
+    ] {
+        let at_limit = repeated(alloc, head, line, most)?;
+        assert_eq!(rt; refusal(alloc, at_limit.as_bytes()), None, "at {most}");
+        let past_it = repeated(alloc, at_limit.as_str(), line, 1)?;
+        assert_eq!(rt;
+            refusal(alloc, past_it.as_bytes()),
+            Some(Refusal::Line(most + 6)),
+            "past {most}"
+        );
+    }
+    Ok(())
+}
+
+#[test]
+fn keeps_the_limits_of_one_put(rt: HostRuntime) -> Result<(), Fail> {
+    let alloc = rt.alloc();
+    let digits = repeated(alloc, "", "0F", 4_096)?;
+    let large = "k = 1\nn = 2\nnodes = 2\nblock = 65536\n---\nput a hex ";
+    let small = "k = 1\nn = 2\nnodes = 2\nblock = 1\n---\nput a hex ";
+    for (head, times) in [(large, 1_024), (small, 1)] {
+        let at_limit = repeated(alloc, head, digits.as_str(), times)?;
+        assert_eq!(rt; refusal(alloc, at_limit.as_bytes()), None, "at {times}");
+        let past_it = repeated(alloc, at_limit.as_str(), "0F", 1)?;
+        assert_eq!(rt;
+            refusal(alloc, past_it.as_bytes()),
+            Some(Refusal::Line(6)),
+            "past {times}"
+        );
+    }
+    Ok(())
+}
+
+#[test]
+fn reads_the_settings_with_their_defaults(rt: HostRuntime) -> Result<(), Fail> {
+    let alloc = rt.alloc();
+    let small = Head {
+        k: 2,
+        n: 3,
+        nodes: 3,
+        block: 1,
+        slice: 1,
+        window: 4,
+        workers: 0,
+        cyclic: false,
+    };
+    assert_eq!(rt; accepted(alloc, HEAD)?.head, small);
+    let text =
+        "n = 16\nk = 15\nblock = 65536\nnodes = 32\npath = 'linear' # the one so far\nworkers = 8\nwindow = 0x10\n---";
+    let large = Head {
+        k: 15,
+        n: 16,
+        nodes: 32,
+        block: 65536,
+        slice: 4096,
+        window: 16,
+        workers: 8,
+        cyclic: false,
+    };
+    let input = accepted(alloc, text)?;
+    assert_eq!(rt; input.head, large);
+    assert_eq!(rt; input.sessions.len(), 0);
+    assert_eq!(rt; input.phases, 1);
+    Ok(())
+}
+
+#[test]
+fn reads_the_calls_of_a_script(rt: HostRuntime) -> Result<(), Fail> {
+    let alloc = rt.alloc();
+    let script =
+        "# a comment\n\nsession 7\nput a.B_-9 hex 4aFf\nput e hex -\n#\nread a 7\nlose 4294967295\nsession 3\n";
+    let input = format!(in alloc; "{HEAD}{script}")?;
+    let input = accepted(alloc, input.as_str())?;
+    assert_eq!(rt; input.phases, 1);
+    let [session] = input.sessions.as_slice() else {
+        return Err(Fail::from("one session"));
+    };
+    assert_eq!(rt; session.number, 7);
+    let [first, second, third, fourth] = session.calls.as_slice() else {
+        return Err(Fail::from("four calls"));
+    };
+    let (Call::Put { name, bytes }, Call::Put { bytes: none, .. }) = (&first.call, &second.call)
+    else {
+        return Err(Fail::from("two puts"));
+    };
+    assert_eq!(rt; name.bytes(), b"a.B_-9".as_slice());
+    assert_eq!(rt; bytes.bytes(), b"J\xff".as_slice());
+    assert_eq!(rt; none.len(), 0);
+    assert!(rt; matches!(third.call, Call::Read { index: 7, .. }));
+    assert!(rt;
+        matches!(
+            fourth.call,
+            Call::Lose {
+                node: 4_294_967_295
+            }
+        )
+    );
+    assert_eq!(rt; fourth.phase, 0);
+    Ok(())
+}
+
+#[test]
+fn prints_each_refusal(rt: HostRuntime) -> Result<(), Fail> {
+    let alloc = rt.alloc();
+    for (refusal, want) in [
+        (Refusal::NoRule, "head: no line ---"),
+        (Refusal::NotToml, "head: not TOML"),
+        (Refusal::Key(Setting::K), "head: k"),
+        (Refusal::Key(Setting::Workers), "head: workers"),
+        (Refusal::UnknownKey, "head: unknown key"),
+        (Refusal::Line(22), "line 22"),
+        (Refusal::NoMemory, "no memory"),
+    ] {
+        assert_eq!(rt; refusal.to_string(alloc)?.as_str(), want);
+    }
+    Ok(())
+}
