@@ -1,5 +1,4 @@
-use Rattle.std.proofs.Common.{◌≡◌, ℕ, List, [], ◌∷◌, codes, ◌⊎◌, inl, inr, refl}
-use Rattle.std.specs.Fmt.{decimal}
+use Rattle.std.proofs.Common.{◌≡◌, ℕ, List, ◌⊎◌, inl, inr, refl}
 use Rattle.ecp_command.specs.Words.{IsSpelled}
 use Rattle.ecp_command.specs.declared.commands.Command.{Command}
 use Rattle.ecp_command.specs.declared.commands.Command.TheVariants.{Run, RunDir, Mend, Check, Soak}

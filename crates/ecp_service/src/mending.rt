@@ -27,13 +27,14 @@ fn rebuild<R: Source>(alloc: Global, k: u32, n: u32, row: u32, input: &mut R) ->
 {
     let bytes = read_to_end(alloc, input)?;
     match Code::new(n, k) {
-        Ok(code) => Ok(code.row_of(alloc, &bytes, row as u8)?),
+        Ok(code) => Ok(code.rebuild(alloc, &bytes, row as u8)?),
         Err(_) => unreachable!(),
     }
 }
 
 /// Reads the input to its end as one stripe of k blocks, each of ceil(length / k) bytes, the last ones
-/// filled with zeros, and writes row `row` of that stripe. Answers the status of the program:
+/// filled with zeros, and writes row `row` of that stripe, rebuilt from the first k rows other than it.
+/// Answers the status of the program:
 ///
 /// - 0: the whole row is written and flushed;
 /// - 5: a read of the input failed;

@@ -1,6 +1,7 @@
 use super::*;
 use ecp_store::{MemSink, MemSource};
 use std::alloc::{AllocError, Global};
+use std::process::Abort;
 use std::test::Fail;
 
 const USAGE: &[u8] = b"usage: ecpipe run | run-dir PATH | mend K N ROW | check | soak SEED\n";
@@ -47,85 +48,80 @@ fn leaves(alloc: Global, run: &Run, bytes: Vec<u8>) -> Result<bool, Fail> {
     Ok(status == run.status && out.bytes() == run.out && diag.bytes() == run.diag)
 }
 
+fn row(words: &'static str, input: &'static [u8], out: &'static [u8]) -> Run {
+    Run {
+        words,
+        input,
+        out,
+        ..DONE_RUN
+    }
+}
+
+fn stop(words: &'static str, status: u8, diag: &'static [u8]) -> Run {
+    Run {
+        words,
+        status,
+        out: b"",
+        diag,
+        ..DONE_RUN
+    }
+}
+
+fn each_leaves<R: Abort>(rt: &R, alloc: Global, runs: &[Run]) -> Result<(), Fail> {
+    for (at, run) in runs.iter().enumerate() {
+        for piece in [1, 3, 65_536] {
+            let run = Run { piece, ..*run };
+            let bytes = run.input.to_vec(alloc)?;
+            assert!(rt; leaves(alloc, &run, bytes)?, "run {at} by {piece}");
+        }
+    }
+    Ok(())
+}
+
 #[test]
-fn rebuilds_a_parity_row_or_says_why_not(rt: HostRuntime) -> Result<(), Fail> {
-    let alloc = rt.alloc();
+fn rebuilds_every_row_in_any_pieces(rt: HostRuntime) -> Result<(), Fail> {
     let runs = [
-        DONE_RUN,
-        Run {
-            piece: 1,
-            ..DONE_RUN
-        },
-        Run {
-            piece: 3,
-            ..DONE_RUN
-        },
-        Run {
-            words: "mend 1 2 1",
-            input: b"xyz",
-            piece: 1,
-            out: b"xyz",
-            ..DONE_RUN
-        },
-        Run {
-            words: "mend 3 5 4",
-            input: &[1, 2, 3],
-            piece: 3,
-            out: &[0x15],
-            ..DONE_RUN
-        },
-        Run {
-            input: b"",
-            out: b"",
-            ..DONE_RUN
-        },
-        Run {
-            words: "mend 3 3 0",
-            status: 2,
-            out: b"",
-            diag: USAGE,
-            ..DONE_RUN
-        },
-        Run {
-            words: "mend 2 3 02",
-            status: 2,
-            out: b"",
-            diag: USAGE,
-            ..DONE_RUN
-        },
-        Run {
-            words: "mend 2 3",
-            piece: 1,
-            status: 2,
-            out: b"",
-            diag: USAGE,
-            ..DONE_RUN
-        },
+        row("mend 2 3 0", b"AB", b"A"),
+        row("mend 2 3 1", b"AB", b"B"),
+        row("mend 2 3 2", b"AB", b"G"),
+        row("mend 2 3 1", b"", b""),
+        row("mend 1 2 1", b"xyz", b"xyz"),
+        row("mend 3 5 0", &[1, 2, 3], &[1]),
+        row("mend 3 5 1", &[1, 2, 3], &[2]),
+        row("mend 3 5 2", &[1, 2, 3], &[3]),
+        row("mend 3 5 3", &[1, 2, 3], &[0]),
+        row("mend 3 5 4", &[1, 2, 3], &[0x15]),
+        row("mend 4 6 3", b"ABCDEFG", b"G\0"),
+        row("mend 4 6 4", b"ABCDEFG", &[0x49, 0x03]),
+        row("mend 4 6 5", b"ABCDEFG", &[0x4b, 0x98]),
+        row("mend 10 14 0", b"0123456789", b"0"),
+        row("mend 10 14 9", b"0123456789", b"9"),
+        row("mend 10 14 13", b"0123456789", b"="),
+    ];
+    each_leaves(&rt, rt.alloc(), &runs)
+}
+
+#[test]
+fn says_why_it_stops(rt: HostRuntime) -> Result<(), Fail> {
+    let read_fault = stop("mend 2 3 2", 5, b"input: read fault\n");
+    let runs = [
+        stop("mend 3 3 0", 2, USAGE),
+        stop("mend 2 3 02", 2, USAGE),
+        stop("mend 2 3", 2, USAGE),
         Run {
             failing_pulls: &[0],
-            status: 5,
-            out: b"",
-            diag: b"input: read fault\n",
-            ..DONE_RUN
+            ..read_fault
         },
         Run {
             failing_pulls: &[1],
-            status: 5,
-            out: b"",
-            diag: b"input: read fault\n",
-            ..DONE_RUN
+            ..read_fault
         },
         Run {
             failing_pushes: &[0],
-            status: WRITE_FAULT,
-            out: b"",
-            ..DONE_RUN
+            ..stop("mend 2 3 2", WRITE_FAULT, b"")
         },
     ];
-    for (at, run) in runs.iter().enumerate() {
-        assert!(rt; leaves(alloc, run, run.input.to_vec(alloc)?)?, "run {at}");
-    }
-    Ok(())
+    each_leaves(&rt, rt.alloc(), &runs)
 }
 
 #[test]

@@ -1,5 +1,4 @@
-use Rattle.std.proofs.Common.{inl, inr, refl}
-use Rattle.ecp_command.specs.Words.{texts}
+use Rattle.std.proofs.Common.{inr, refl}
 use Rattle.ecp_command.specs.declared.commands.Command.TheVariants.{Mend}
 use Rattle.ecp_service.specs.declared.stop.Stop.TheVariants.{Usage}
 use Rattle.ecp_service.proofs.Asked.{spelled_asked, left_of_two}

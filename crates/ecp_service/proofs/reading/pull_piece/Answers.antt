@@ -1,4 +1,4 @@
-use Rattle.std.proofs.Common.{◌≡◌, ℕ, length, take, arith, length-take, length-take-le}
+use Rattle.std.proofs.Common.{◌≡◌, ℕ, length, take, arith, length-take}
 use Rattle.ecp_service.proofs.Pieces.{gathered_where_ok}
 use Rattle.ecp_service.proofs.reading.pull_piece.Goals as goal
 

@@ -1,4 +1,4 @@
-use Rattle.std.proofs.Common.{◌≡◌, ◌∙◌, ℕ, arith, length, drop, length-drop, subst, sym, IsTrue}
+use Rattle.std.proofs.Common.{◌∙◌, ℕ, arith, length-drop, subst, sym, IsTrue}
 use Rattle.ecp_service.proofs.Pieces.{appended_more}
 use Rattle.ecp_service.proofs.writing.push_all.Goals as goal
 
