@@ -7,3 +7,7 @@ pub mod FollowLaws
 pub mod PlanLaws
 pub mod TextLaws
 pub mod LineLaws
+pub mod OrderLaws
+pub mod StoreLaws
+pub mod KeptLaws
+pub mod RowLaws

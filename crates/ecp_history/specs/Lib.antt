@@ -17,3 +17,6 @@ pub mod Spaced
 pub mod JournalText
 pub mod ReplyText
 pub mod Journals
+pub mod Rising
+pub mod Changes
+pub mod Kept

@@ -22,6 +22,11 @@ pub record PlainTable : Type 0 where
   pub stripes : List Stripe
   pub nodes : List Node
 
+-- a table, and the shape that it was made with
+pub record Shaped : Type 0 where
+  pub shape : Shape
+  pub table : PlainTable
+
 -- the table at the start: no file, and all nodes up
 abbrev pub start : Shape → PlainTable
 start shape = record { files = []; stripes = []; nodes = replicate shape.nodes (record { up = true; inc = 0 }) }

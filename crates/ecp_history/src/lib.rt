@@ -7,8 +7,9 @@
 //! entry, a stripe's data stay, a lost node's blocks stay lost, no call looks before its caller's past, and a sound
 //! plan stays sound as its front grows.
 //!
-//! The code keeps the journal's lines, and writes the lines of the journal and of the replies into a buffer of fixed
-//! size. Room for the journal is taken by `Journal::reserve` alone; no other call takes memory.
+//! The code keeps the plain table, exactly by these definitions, and the journal's lines, and writes the lines of the
+//! journal and of the replies into a buffer of fixed size. Room for the journal is taken by `Journal::reserve` alone,
+//! and the texts take no memory.
 #![tactic(auto)]
 
 mod act;
@@ -23,10 +24,14 @@ mod line;
 mod name;
 mod node;
 mod part;
+mod placed_stripe;
 mod reply;
 mod reply_writer;
 mod shape;
 mod standing;
+mod storing;
+mod stripe_list;
+mod table;
 mod task;
 mod text;
 mod words;
@@ -46,6 +51,7 @@ pub use reply::Reply;
 pub use reply_writer::{reply_text, reply_to};
 pub use shape::Shape;
 pub use standing::Standing;
+pub use table::Table;
 pub use task::Task;
 pub use text::Text;
 

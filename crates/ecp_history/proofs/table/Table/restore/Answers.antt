@@ -1,0 +1,17 @@
+use Rattle.std.proofs.Common.{◌≡◌, ◌==◌, length, refl, sym, ◌∙◌, ap, subst, List, true, if◌then◌else◌}
+use Rattle.std.specs.List.{AllByRecursion}
+use Rattle.ecp_history.specs.Tables.{Stripe, Standing}
+use Rattle.ecp_history.specs.Steps.{with_rows, change_row}
+use Rattle.ecp_history.specs.Rising.{IsRising}
+use Rattle.ecp_history.proofs.KeptLaws.{kept_by, rising-with_rows, full-with_rows, written_over}
+use Rattle.ecp_history.proofs.table.Table.restore.Goals as goal
+
+pub invariant_of-self : goal.invariant_of-self
+invariant_of-self c =
+    let change : Stripe → List Standing = λ x. if x.number == c.args.stripe then change_row (λ _. record { node = c.args.node; live = true }) c.args.row x.rows else x.rows in
+    let old = c.self.inside.stripes.items in
+    let written = written_over c.self.inside.stripes.len c.restore_in.new.stripes old (c.restore_in.auto.stripes ∙ c.deref_mut.ensures.len) in
+    let is = written ∙ c.restore_in.ensures ∙ ap (with_rows change) c.deref_mut.ensures.value in
+    kept_by c.self.inside _ c.self.invariant refl refl refl refl refl
+    (subst IsRising (sym is) (rising-with_rows change old c.self.invariant.rising))
+    (subst (AllByRecursion (λ x. length x.blocks ≡ c.self.inside.shape.k)) (sym is) (full-with_rows change c.self.inside.shape.k old c.self.invariant.full))

@@ -1,0 +1,112 @@
+ghost use Rattle.std.specs.Prelude.{◌≡◌, ◌==◌, false, if◌then◌else◌, map, true};
+ghost use Rattle.ecp_history.specs.Steps.{change_row, without_node};
+
+use crate::standing::Standing;
+use ecp_code::Stripe;
+use std::marker::Model;
+
+/// A stripe of the table: its number, its data, and where its rows stand.
+#[derive(Debug, Drop)]
+pub(crate) struct PlacedStripe {
+    number: u32,
+    blocks: Stripe,
+    rows: Vec<Standing>,
+}
+
+impl Model for PlacedStripe {
+    ghost use Rattle.ecp_history.specs.Tables as tables;
+
+    ghost Value = { tables.Stripe };
+
+    ghost view = { λ s. record { number = s.number; blocks = s.blocks; rows = s.rows.items } };
+}
+
+impl PlacedStripe {
+    pub(crate) fn new(number: u32, blocks: Stripe, rows: Vec<Standing>) -> Self
+        ensures number { result.number ≡ number }
+        ensures blocks { result.blocks ≡ blocks }
+        ensures rows { result.rows ≡ rows.items }
+    {
+        PlacedStripe {
+            number,
+            blocks,
+            rows,
+        }
+    }
+
+    pub(crate) fn number(&self) -> u32
+        ensures { result ≡ self.now.number }
+    {
+        self.number
+    }
+
+    pub(crate) fn blocks(&self) -> &Stripe
+        ensures { result.now ≡ self.now.blocks }
+    {
+        &self.blocks
+    }
+
+    pub(crate) fn rows(&self) -> &[Standing]
+        ensures { result.now ≡ self.now.rows }
+    {
+        &self.rows
+    }
+
+    /// No row is live on the node.
+    pub(crate) fn lose(&mut self, node: u8)
+        ensures { self.new ≡ record self.old { rows = map (without_node node) self.old.rows } }
+    {
+        lose_rows(&mut self.rows, node);
+    }
+
+    /// The row is live on the node, if this is the stripe of that number.
+    pub(crate) fn restore_if(&mut self, number: u32, row: u8, node: u8)
+        ensures { self.new ≡ record self.old { rows = if self.old.number == number then change_row (λ _. record { node = node; live = true }) row self.old.rows else self.old.rows } }
+    {
+        if self.number == number {
+            restore_row(&mut self.rows, row, node);
+        }
+    }
+
+    /// The row is lost where it stands, if this is the stripe of that number.
+    pub(crate) fn give_up_if(&mut self, number: u32, row: u8)
+        ensures { self.new ≡ record self.old { rows = if self.old.number == number then change_row (λ x. record { node = x.node; live = false }) row self.old.rows else self.old.rows } }
+    {
+        if self.number == number {
+            give_up_row(&mut self.rows, row);
+        }
+    }
+}
+
+fn lose_rows(rows: &mut [Standing], node: u8)
+    ensures { rows.new ≡ map (without_node node) rows.old }
+{
+    for row in rows.iter_mut() {
+        *row = lost_from(*row, node);
+    }
+}
+
+fn lost_from(row: Standing, node: u8) -> Standing
+    ensures { result ≡ without_node node row }
+{
+    Standing {
+        node: row.node,
+        live: row.live && row.node != node,
+    }
+}
+
+fn restore_row(rows: &mut [Standing], row: u8, node: u8)
+    ensures { rows.new ≡ change_row (λ _. record { node = node; live = true }) row rows.old }
+{
+    if usize::from(row) < rows.len() {
+        rows[usize::from(row)] = Standing { node, live: true };
+    }
+}
+
+fn give_up_row(rows: &mut [Standing], row: u8)
+    ensures { rows.new ≡ change_row (λ x. record { node = x.node; live = false }) row rows.old }
+{
+    if usize::from(row) < rows.len() {
+        rows[usize::from(row)].live = false;
+    }
+}
