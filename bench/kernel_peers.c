@@ -1,6 +1,7 @@
 /* The peers of `ecp_kernel` on 64 KiB of source: a loop over a table of 256 products, memcpy, and ISA-L's
  * gf_vect_mad where it is installed (HAVE_ISAL). Prints for each of 20 rounds each peer's rate in hundredths of a GB
  * of source a second. */
+#include "times.h"
 #include <stdint.h>
 #include <stdio.h>
 #include <string.h>
@@ -12,15 +13,6 @@ void gf_vect_mad_sse(int len, int vec, int vec_i, unsigned char *gftbls, unsigne
 
 enum { LEN = 65536, REPEATS = 512 };
 static uint8_t src[LEN] __attribute__((aligned(64))), dst[LEN] __attribute__((aligned(64))), table[256];
-
-static uint8_t times(uint8_t a, uint8_t b) {
-    unsigned p = 0;
-    for (int i = 0; i < 8; i++)
-        if (b >> i & 1) p ^= (unsigned)a << i;
-    for (int i = 14; i >= 8; i--)
-        if (p >> i & 1) p ^= 0x11Du << (i - 8);
-    return (uint8_t)p;
-}
 
 static void by_table(void) {
     for (int i = 0; i < LEN; i++) dst[i] ^= table[src[i]];

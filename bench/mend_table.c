@@ -3,6 +3,7 @@
  *
  * Reads standard input whole as one stripe of K blocks of ceil(length / K) bytes, filled with zeros, and
  * writes row ROW: the sum of the first K rows other than ROW, each times its interpolation weight. */
+#include "times.h"
 #include <stdint.h>
 #include <stdio.h>
 #include <stdlib.h>
@@ -12,15 +13,6 @@
 #endif
 
 static uint8_t product[256][256];
-
-static uint8_t times(uint8_t a, uint8_t b) {
-    unsigned p = 0;
-    for (int i = 0; i < 8; i++)
-        if (b >> i & 1) p ^= (unsigned)a << i;
-    for (int i = 14; i >= 8; i--)
-        if (p >> i & 1) p ^= 0x11Du << (i - 8);
-    return (uint8_t)p;
-}
 
 static uint8_t quotient(uint8_t a, uint8_t b) {
     for (int q = 0; q < 256; q++)
