@@ -1,4 +1,4 @@
-use Rattle.std.specs.Prelude.{ℕ, ◌<◌, ◌≤◌}
+use Rattle.std.specs.Prelude.{ℕ, ◌<◌, ◌≤◌, List, ◌++◌, codes, decimal}
 
 -- how many rows a stripe has, and how many of them are data
 pub record Shape : Type 0 where
@@ -10,3 +10,8 @@ pub record IsShape (n k : ℕ) : Type 0 where
   pub data_rows : 1 ≤ k
   pub parity_rows : k < n
   pub at_most : n ≤ 16
+
+-- what is printed of numbers that no code has
+abbrev pub bad_shape_text : ℕ → ℕ → List ℕ
+bad_shape_text n k =
+    codes "no code has n = " ++ (decimal n ++ (codes " and k = " ++ (decimal k ++ codes ": 1 <= k < n <= 16")))

@@ -11,12 +11,14 @@ pub struct BadShape {
 }
 
 impl fmt::Display for BadShape {
+    ghost use Rattle.std.specs.Prelude.{Some};
+    ghost use Rattle.ecp_code.specs.Code.{bad_shape_text};
+
+    ghost output = { λ bad. Some (bad_shape_text bad.n bad.k) };
+
     fn fmt<W: fmt::Write>(&self, f: &mut fmt::Formatter<W>) -> fmt::Result {
-        write!(
-            f,
-            "no code has n = {} and k = {}: 1 <= k < n <= 16",
-            self.n, self.k
-        )
+        let BadShape { n, k } = *self;
+        write!(f, "no code has n = {n} and k = {k}: 1 <= k < n <= 16")
     }
 }
 

@@ -8,7 +8,7 @@ ghost use Rattle.ecp_code.specs.Weights.{weights};
 use crate::bad_shape::BadShape;
 use crate::chosen::{inverse_of, times_column};
 use crate::data_weights::data_weights;
-use crate::rows::sum_of_blocks;
+use crate::rows::{copy_of_block, sum_of_blocks};
 use crate::stripe::{Stripe, filled_bytes};
 use crate::weights::Weights;
 use ecp_store::{Block, NoMemory};
@@ -92,7 +92,7 @@ impl Code {
         Weights { len: k, w }
     }
 
-    /// Row `row` of a stripe. A data row is its block again.
+    /// Row `row` of a stripe. A data row is a copy of its block, and no sum is made.
     ///
     /// Takes memory once, for the block.
     pub fn encode(&self, alloc: Global, from: &Stripe, row: u8) -> Result<Block, NoMemory>
@@ -115,7 +115,7 @@ impl Code {
         self.row_of_blocks(alloc, bytes, bytes.len().div_ceil(self.k as usize), row)
     }
 
-    /// Row `row` of the data that `bytes` are, as k blocks of `len` bytes.
+    /// Row `row` of the data that `bytes` are, as k blocks of `len` bytes. A data row is a copy of its block.
     fn row_of_blocks(
         &self,
         alloc: Global,
@@ -126,6 +126,9 @@ impl Code {
         requires { row < self.now.n }
         ensures { IfOk result (λ block. block ≡ row_at (blocks self.now.k len bytes.now) row) }
     {
+        if row < self.k {
+            return copy_of_block(alloc, bytes, self.k, len, row);
+        }
         let weights = data_weights(self.k, row);
         sum_of_blocks(alloc, &weights[..self.k as usize], bytes, len)
     }

@@ -1,8 +1,9 @@
 ghost use Rattle.std.specs.Prelude.{◌≡◌, ◌≤◌, ◌<◌, length, IfOk};
 ghost use Rattle.ecp_field.specs.Lists.{sums, scaled};
-ghost use Rattle.ecp_code.specs.Rows.{weighted_sum};
+ghost use Rattle.ecp_code.specs.Rows.{row as row_at, weighted_sum};
 ghost use Rattle.ecp_code.specs.Stripes.{filled, blocks};
 
+use crate::stripe::filled_bytes;
 use ecp_kernel::mul_add_into;
 use ecp_store::{Block, NoMemory};
 use std::alloc::Global;
@@ -27,6 +28,24 @@ pub(crate) fn sum_of_blocks(
         rest = after;
     }
     Ok(Block::new(sum))
+}
+
+/// Data row `row` of the k blocks of `len` bytes that `bytes` fill: a copy of its block. Where the bytes end, zeros
+/// follow.
+///
+/// Takes memory once, for the result.
+pub(crate) fn copy_of_block(
+    alloc: Global,
+    bytes: &[u8],
+    k: u8,
+    len: usize,
+    row: u8,
+) -> Result<Block, NoMemory>
+    requires { row < k }
+    ensures { IfOk result (λ block. block ≡ row_at (blocks k len bytes.now) row) }
+{
+    let start = len.saturating_mul(row as usize).min(bytes.len());
+    Ok(Block::new(filled_bytes(alloc, &bytes[start..], len)?))
 }
 
 /// Adds to `sum` a block times `c`. A block that is shorter ends in zeros, which add nothing.

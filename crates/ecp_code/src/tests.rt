@@ -99,3 +99,13 @@ fn a_stripe_is_encoded_row_by_row(rt: HostRuntime) -> Result<(), Fail> {
     assert_eq!(rt; data.bytes(), b"BB".as_slice());
     Ok(())
 }
+
+#[test]
+fn each_row_is_rebuilt_from_the_others(rt: HostRuntime) -> Result<(), Fail> {
+    let code = Code::new(3, 2)?;
+    for (row, want) in [(0, "AA"), (1, "BB"), (2, "GG")] {
+        let rebuilt = code.rebuild(rt.alloc(), b"AABB", row)?;
+        assert_eq!(rt; rebuilt.bytes(), want.as_bytes());
+    }
+    Ok(())
+}

@@ -49,6 +49,21 @@ impl Write for Full {
     }
 }
 
+// A writer that counts how often it was flushed.
+#[derive(Drop)]
+struct Flushed(u8);
+
+impl Write for Flushed {
+    fn write(&mut self, buf: &[u8]) -> io::Result<usize> {
+        Ok(buf.len())
+    }
+
+    fn flush(&mut self) -> io::Result<()> {
+        self.0 = self.0.saturating_add(1);
+        Ok(())
+    }
+}
+
 #[test]
 fn a_block_gives_its_bytes_back(rt: HostRuntime) -> Result<(), Fail> {
     let block = Block::new([7, 8].to_vec(rt.alloc())?);
@@ -118,6 +133,13 @@ fn a_writer_gets_the_bytes_and_fails_where_it_takes_none(rt: HostRuntime) -> Res
     assert_eq!(rt; push_once(&mut sink, 1, 2), Ok(2));
     assert_eq!(rt; sink.flush(), Ok(()));
     assert_eq!(rt; written.as_slice(), [1, 2].as_slice());
+
+    let mut flushed = Flushed(0);
+    let mut sink = StdSink::new(&mut flushed);
+    assert_eq!(rt; push_once(&mut sink, 1, 2), Ok(2));
+    assert_eq!(rt; sink.flush(), Ok(()));
+    assert_eq!(rt; sink.flush(), Ok(()));
+    assert_eq!(rt; flushed.0, 2);
 
     let mut full = StdSink::new(Full);
     assert_eq!(rt; push_once(&mut full, 1, 2), Err(Failed));
