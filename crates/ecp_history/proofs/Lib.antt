@@ -11,3 +11,4 @@ pub mod OrderLaws
 pub mod StoreLaws
 pub mod KeptLaws
 pub mod RowLaws
+pub mod MaskLaws

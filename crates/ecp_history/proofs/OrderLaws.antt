@@ -5,8 +5,8 @@ use Rattle.std.specs.Prelude.{find, nat_lt, ◌≢◌}
 use Rattle.std.specs.List.{AllByRecursion}
 use Rattle.std.proofs.lemmas.Bool.Decides.{nat_tests}
 use Rattle.std.proofs.lemmas.Bool.{eqb-true, cases_lt}
-use Rattle.ecp_history.specs.Tables.{Stripe}
-use Rattle.ecp_history.specs.Steps.{placed}
+use Rattle.ecp_history.specs.Tables.{Stripe, Standing}
+use Rattle.ecp_history.specs.Steps.{placed, with_rows}
 use Rattle.ecp_history.specs.Rising.{IsRising, AllAbove, AllBelow}
 
 -- what holds of each element holds of one
@@ -149,3 +149,29 @@ none_between (x ∷ xs) (suc i) s below above =
     let less : x.number < s = below.0 in
     let other : x.number == s ≡ false = grind (arith, nat_tests) in
     rw other (none_between xs i s below.1 above)
+
+-- where no stripe has the number, none changes
+pub none_changed : (change : Stripe → List Standing) (s : ℕ) (xs : List Stripe) → find (λ x. x.number == s) xs ≡ None → with_rows (λ x. cond (x.number == s) (change x) x.rows) xs ≡ xs
+none_changed change s [] none = refl
+none_changed change s (x ∷ xs) none = one (x.number == s) none (none_changed change s xs) where
+  one : (b : Bool) → cond b (Some x) (find (λ y. y.number == s) xs) ≡ None
+      → (find (λ y. y.number == s) xs ≡ None → with_rows (λ y. cond (y.number == s) (change y) y.rows) xs ≡ xs)
+      → record { number = x.number; blocks = x.blocks; rows = cond b (change x) x.rows } ∷ with_rows (λ y. cond (y.number == s) (change y) y.rows) xs ≡ x ∷ xs
+  one true none more = cc
+  one false none more = ap (λ (ys : List Stripe). x ∷ ys) (more none)
+
+-- a stripe, with its rows changed
+abbrev pub changed : (Stripe → List Standing) → Stripe → Stripe
+changed change x = record { number = x.number; blocks = x.blocks; rows = change x }
+
+-- where a stripe has the number, it alone changes
+pub one_changed : (change : Stripe → List Standing) (s : ℕ) (xs : List Stripe) (i : ℕ) (d : Stripe) → IsRising xs → i < length xs → (get_or xs i d).number ≡ s
+    → with_rows (λ x. cond (x.number == s) (change x) x.rows) xs ≡ set xs i (changed change (get_or xs i d))
+one_changed change s [] i d rising within is = absurd (omega arith)
+one_changed change s (x ∷ xs) zero d rising within is =
+    let same : x.number == s ≡ true = grind (arith, nat_tests) in
+    rw same (ap (λ (ys : List Stripe). changed change x ∷ ys) (none_changed change s xs (none_above xs s (subst (λ (n : ℕ). AllAbove n xs) is rising.0))))
+one_changed change s (x ∷ xs) (suc i) d rising within is =
+    let below : x.number < (get_or xs i d).number = all_at (λ y. x.number < y.number) xs i d rising.0 (omega arith) in
+    let other : x.number == s ≡ false = grind (arith, nat_tests) in
+    rw other (ap (λ (ys : List Stripe). x ∷ ys) (one_changed change s xs i d rising.1 (omega arith) is))

@@ -2,14 +2,14 @@
 use Rattle.std.specs.Prelude.{◌≡◌, ℕ, zero, suc, ◌-◌, ◌==◌, Bool, true, false, ◌&&◌, List, slice_get, Option, Some, None, IsTrue, IfSome, ⊤}
 use Rattle.std.specs.List.{list_any}
 use Rattle.ecp_history.specs.declared.act.Act.{Act}
-use Rattle.ecp_history.specs.declared.act.Act.TheVariants.{Data, Opened, Restored, AlreadyLive, Clash, Gone, MendFailed, MendUnsteady, MendDown}
+use Rattle.ecp_history.specs.declared.act.Act.TheVariants.{Data, NoSuchFile, Opened, NoNode, TargetDown, Restored, AlreadyLive, Clash, Gone, MendFailed, MendUnsteady, MendDown}
 use Rattle.ecp_history.specs.declared.deed.Deed.{Deed}
 use Rattle.ecp_history.specs.declared.deed.Deed.TheVariants as deed
 use Rattle.ecp_history.specs.declared.entry.Entry.{Entry}
 use Rattle.ecp_history.specs.declared.part.Part.{Part}
 use Rattle.ecp_history.specs.declared.part.Part.TheVariants as part
 use Rattle.ecp_history.specs.declared.shape.Shape.{Shape}
-use Rattle.ecp_history.specs.Entries.{is_part_of}
+use Rattle.ecp_history.specs.Entries.{is_part_of, is_same_call}
 use Rattle.ecp_history.specs.Tables.{BlockName, lost_on}
 use Rattle.ecp_history.specs.Steps.{table_at}
 use Rattle.ecp_history.specs.Follows.{follows}
@@ -71,8 +71,19 @@ LaterPartFits shape before e j (Some (deed.Cat name)) = FollowsData before e j
 LaterPartFits shape before e j (Some (deed.Rebuild from to)) = IsMending shape before e from to j
 LaterPartFits shape before e j _ = ⊥
 
--- what must stand before a part of a call with this deed
+-- whether an act refuses a whole call
+abbrev pub refuses : Act → Bool
+refuses NoSuchFile = true
+refuses (NoNode node) = true
+refuses (TargetDown node) = true
+refuses _ = false
+
+-- no earlier entry is of the call of e
+abbrev pub IsAlone : List Entry → Entry → Type 0
+IsAlone before e = list_any (is_same_call e) before ≡ false
+
+-- what must stand before a part of a call with this deed: before the end of one that is refused as a whole, nothing of it
 abbrev pub PartFits : Shape → List Entry → Entry → Part → Type 0
 PartFits shape before e (part.Part zero) = ⊤
 PartFits shape before e (part.Part (suc j)) = LaterPartFits shape before e j e.deed
-PartFits shape before e part.End = ⊤
+PartFits shape before e part.End = IsTrue (refuses e.line.act) → IsAlone before e

@@ -14,6 +14,7 @@
 
 mod act;
 mod block_name;
+mod counts;
 mod deed;
 mod entry;
 mod file;
@@ -54,6 +55,9 @@ pub use standing::Standing;
 pub use table::Table;
 pub use task::Task;
 pub use text::Text;
+pub use words::{put, put_number, put_word};
 
+#[cfg(test)]
+mod table_tests;
 #[cfg(test)]
 mod tests;

@@ -1,6 +1,7 @@
 ghost use Rattle.std.specs.Prelude.{◌≡◌, ◌≤◌, length};
 ghost use Rattle.ecp_history.specs.Filled.{zero_filled};
 
+use crate::text::Text;
 use std::marker::Model;
 
 /// The name of a file: at most 64 bytes. It is seen as its first `len` bytes; those behind them are 0.
@@ -36,6 +37,18 @@ impl Name {
         Name {
             len: text.len() as u8,
             at: filled(text.as_bytes()),
+        }
+    }
+
+    /// The name that these bytes are.
+    pub fn of(text: &Text) -> Self
+        requires some { 1 ≤ length text.now }
+        requires short { length text.now ≤ 64 }
+        ensures { result ≡ text.now }
+    {
+        Name {
+            len: text.len() as u8,
+            at: filled(text.bytes()),
         }
     }
 

@@ -1,4 +1,4 @@
-ghost use Rattle.std.specs.Prelude.{◌≡◌, ◌==◌, false, if◌then◌else◌, map, true};
+ghost use Rattle.std.specs.Prelude.{◌≡◌, false, map, true};
 ghost use Rattle.ecp_history.specs.Steps.{change_row, without_node};
 
 use crate::standing::Standing;
@@ -59,22 +59,18 @@ impl PlacedStripe {
         lose_rows(&mut self.rows, node);
     }
 
-    /// The row is live on the node, if this is the stripe of that number.
-    pub(crate) fn restore_if(&mut self, number: u32, row: u8, node: u8)
-        ensures { self.new ≡ record self.old { rows = if self.old.number == number then change_row (λ _. record { node = node; live = true }) row self.old.rows else self.old.rows } }
+    /// The row is live on the node.
+    pub(crate) fn restore(&mut self, row: u8, node: u8)
+        ensures { self.new ≡ record self.old { rows = change_row (λ _. record { node = node; live = true }) row self.old.rows } }
     {
-        if self.number == number {
-            restore_row(&mut self.rows, row, node);
-        }
+        restore_row(&mut self.rows, row, node);
     }
 
-    /// The row is lost where it stands, if this is the stripe of that number.
-    pub(crate) fn give_up_if(&mut self, number: u32, row: u8)
-        ensures { self.new ≡ record self.old { rows = if self.old.number == number then change_row (λ x. record { node = x.node; live = false }) row self.old.rows else self.old.rows } }
+    /// The row is lost where it stands.
+    pub(crate) fn give_up(&mut self, row: u8)
+        ensures { self.new ≡ record self.old { rows = change_row (λ x. record { node = x.node; live = false }) row self.old.rows } }
     {
-        if self.number == number {
-            give_up_row(&mut self.rows, row);
-        }
+        give_up_row(&mut self.rows, row);
     }
 }
 

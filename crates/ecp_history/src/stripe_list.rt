@@ -1,6 +1,6 @@
 //! The stripes of a table, in rising order of their numbers.
 
-ghost use Rattle.std.specs.Prelude.{◌≡◌, ℕ, ◌+◌, ◌==◌, ◌<◌, ◌≤◌, false, find, if◌then◌else◌, length, map, option_copied, true, IsTrue, slice_index_or, take, vec_capacity, vec_len};
+ghost use Rattle.std.specs.Prelude.{◌≡◌, ℕ, ◌+◌, ◌==◌, ◌<◌, ◌≤◌, false, find, if◌then◌else◌, length, map, option_copied, true, IfSome, IfNone, IsTrue, None, slice_index_or, take, vec_capacity, vec_len};
 ghost use Rattle.ecp_history.specs.Rising.{AllBelow, IsRising};
 ghost use Rattle.ecp_history.specs.Steps.{change_row, placed, with_rows, without_node};
 ghost use Rattle.ecp_history.specs.Tables as tables;
@@ -12,15 +12,28 @@ pub(crate) fn stripe_with(stripes: &[PlacedStripe], number: u32) -> Option<&Plac
     requires { IsRising stripes.now }
     ensures { option_copied result ≡ find (λ x. x.number == number) stripes.now }
 {
+    match index_with(stripes, number) {
+        Some(at) => Some(&stripes[at]),
+        None => None,
+    }
+}
+
+/// The index of the stripe with this number, if there is one.
+fn index_with(stripes: &[PlacedStripe], number: u32) -> Option<usize>
+    requires { IsRising stripes.now }
+    ensures within { IfSome result (λ at. at < length stripes.now) }
+    ensures some { IfSome result (λ at. (d : tables.Stripe) → (slice_index_or stripes.now at d).number ≡ number) }
+    ensures none { IfNone result (find (λ x. x.number == number) stripes.now ≡ None) }
+{
     let mut low = 0;
     let mut high = stripes.len();
     while low < high {
         let middle = low + (high - low) / 2;
-        let stripe = &stripes[middle];
-        if stripe.number() == number {
-            return Some(stripe);
+        let found = stripes[middle].number();
+        if found == number {
+            return Some(middle);
         }
-        if stripe.number() < number {
+        if found < number {
             low = middle + 1;
         } else {
             high = middle;
@@ -85,18 +98,20 @@ pub(crate) fn lose_all(stripes: &mut [PlacedStripe], node: u8)
 
 /// The row of the stripe is live on the node.
 pub(crate) fn restore_in(stripes: &mut [PlacedStripe], number: u32, row: u8, node: u8)
+    requires { IsRising stripes.old }
     ensures { stripes.new ≡ with_rows (λ x. if x.number == number then change_row (λ _. record { node = node; live = true }) row x.rows else x.rows) stripes.old }
 {
-    for stripe in stripes.iter_mut() {
-        stripe.restore_if(number, row, node);
+    if let Some(at) = index_with(stripes, number) {
+        stripes[at].restore(row, node);
     }
 }
 
 /// The row of the stripe is lost where it stands.
 pub(crate) fn give_up_in(stripes: &mut [PlacedStripe], number: u32, row: u8)
+    requires { IsRising stripes.old }
     ensures { stripes.new ≡ with_rows (λ x. if x.number == number then change_row (λ y. record { node = y.node; live = false }) row x.rows else x.rows) stripes.old }
 {
-    for stripe in stripes.iter_mut() {
-        stripe.give_up_if(number, row);
+    if let Some(at) = index_with(stripes, number) {
+        stripes[at].give_up(row);
     }
 }

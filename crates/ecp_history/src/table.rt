@@ -1,14 +1,14 @@
-ghost use Rattle.std.specs.Prelude.{◌≡◌, ◌+◌, ◌^◌, ◌<◌, ◌≤◌, count_by, false, length, slice_get, true, IfOk, IsSome, OnErr, OnOk};
-ghost use Rattle.ecp_code.specs.Stripes.{stripes};
+ghost use Rattle.std.specs.Prelude.{◌≡◌, ◌+◌, ◌^◌, ◌<◌, ◌≤◌, false, length, min, true, IfOk, IsSome, OnErr, OnOk};
+ghost use Rattle.ecp_code.specs.Stripes.{stripe_count, stripes};
 ghost use Rattle.ecp_history.specs.Changes.{CanChange, IsInRange};
 ghost use Rattle.ecp_history.specs.Calls.{Agrees, put_len};
 ghost use Rattle.ecp_history.specs.Entries.{deed_name, deed_node};
 ghost use Rattle.ecp_history.specs.Placement.{nodes_in};
 ghost use Rattle.ecp_history.specs.Steps.{after, joined, lost, stored, with_block};
-ghost use Rattle.ecp_history.specs.Tables.{block, file_of, inc_of, is_live, is_up, live_rows, start, stripe_of, up_count};
-ghost use Rattle.std.specs.Option.{option_map_or};
+ghost use Rattle.ecp_history.specs.Tables.{block, block_count, file_of, inc_of, is_live, is_lost, is_up, live_on, live_rows, start, stripe_of, up_count, up_mask};
 
 use crate::act::Act;
+use crate::counts::{live_among, live_at, live_over, lost_at, up_among};
 use crate::deed::Deed;
 use crate::entry::Entry;
 use crate::file::File;
@@ -16,7 +16,6 @@ use crate::name::Name;
 use crate::node::Node;
 use crate::placed_stripe::PlacedStripe;
 use crate::shape::Shape;
-use crate::standing::Standing;
 use crate::storing::{nodes_of, put_all, stripes_of};
 use crate::stripe_list::{give_up_in, lose_all, restore_in, stripe_with};
 use ecp_code::Code;
@@ -248,10 +247,17 @@ impl Table {
     }
 
     /// How many nodes are up.
-    pub fn up_count(&self) -> usize
+    pub fn up_count(&self) -> u32
         ensures { result ≡ up_count self.now.table }
     {
-        self.nodes.iter().filter(|node| node.up).count()
+        self.nodes.iter().filter(|node| node.up).count() as u32
+    }
+
+    /// The mask of the nodes that are up: bit m for node m.
+    pub fn up_mask(&self) -> u32
+        ensures { result ≡ up_mask self.now.table }
+    {
+        up_among(&self.nodes)
     }
 
     /// Whether a block is live.
@@ -264,6 +270,23 @@ impl Table {
         }
     }
 
+    /// Whether a block is there and lost.
+    pub fn is_lost(&self, stripe: u32, row: u8) -> bool
+        ensures { result ≡ is_lost self.now.table stripe row }
+    {
+        match stripe_with(&self.stripes, stripe) {
+            Some(stripe) => lost_at(stripe.rows(), row),
+            None => false,
+        }
+    }
+
+    /// How many blocks are live on a node. It stands still at `u32::MAX`.
+    pub fn live_on(&self, node: u32) -> u32
+        ensures { result ≡ min (live_on self.now.table node) 4294967295 }
+    {
+        live_over(&self.stripes, node)
+    }
+
     /// How many rows of a stripe are live.
     pub fn live_rows(&self, stripe: u32) -> usize
         ensures { result ≡ live_rows self.now.table stripe }
@@ -272,6 +295,20 @@ impl Table {
             Some(stripe) => live_among(stripe.rows()),
             None => 0,
         }
+    }
+
+    /// How many stripes a file of this many bytes has.
+    pub fn stripe_count(&self, len: u32) -> u32
+        ensures { result ≡ stripe_count self.now.shape.k self.now.shape.block len }
+    {
+        self.code.stripe_count(len, self.shape.block)
+    }
+
+    /// How many blocks a file has, without those that only fill its last stripe.
+    pub fn block_count(&self, file: &File) -> u32
+        ensures { result ≡ block_count self.now.shape file.now }
+    {
+        file.len.div_ceil(self.shape.block)
     }
 
     /// The bytes of a row of a stripe, made from its data alone.
@@ -287,19 +324,4 @@ impl Table {
             None => unreachable!(),
         }
     }
-}
-
-fn live_at(rows: &[Standing], row: u8) -> bool
-    ensures { result ≡ option_map_or (λ x. x.live) (slice_get rows.now row) false }
-{
-    match rows.get(usize::from(row)) {
-        Some(row) => row.live,
-        None => false,
-    }
-}
-
-fn live_among(rows: &[Standing]) -> usize
-    ensures { result ≡ count_by (λ x. x.live) rows.now }
-{
-    rows.iter().filter(|row| row.live).count()
 }

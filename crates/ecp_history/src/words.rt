@@ -9,7 +9,7 @@ use crate::act::Act;
 use itoa::Buffer;
 
 /// Puts bytes behind the first `at` bytes, and answers where they end.
-pub(crate) fn put(out: &mut [u8; 512], at: usize, bytes: &[u8]) -> usize
+pub fn put(out: &mut [u8; 512], at: usize, bytes: &[u8]) -> usize
     requires { at + length bytes.now ≤ 512 }
     ensures end { result ≡ at + length bytes.now }
     ensures text { take result out.new ≡ take at out.old ++ bytes.now }
@@ -20,7 +20,7 @@ pub(crate) fn put(out: &mut [u8; 512], at: usize, bytes: &[u8]) -> usize
 }
 
 /// Puts a word, behind a space.
-pub(crate) fn put_word(out: &mut [u8; 512], at: usize, word: &[u8]) -> usize
+pub fn put_word(out: &mut [u8; 512], at: usize, word: &[u8]) -> usize
     requires { at + (length word.now + 1) ≤ 512 }
     ensures end { result ≡ at + (length word.now + 1) }
     ensures text { take result out.new ≡ take at out.old ++ 32 ∷ word.now }
@@ -30,7 +30,7 @@ pub(crate) fn put_word(out: &mut [u8; 512], at: usize, word: &[u8]) -> usize
 }
 
 /// Puts a number, behind a space.
-pub(crate) fn put_number(out: &mut [u8; 512], at: usize, number: u32) -> usize
+pub fn put_number(out: &mut [u8; 512], at: usize, number: u32) -> usize
     requires { at + 11 ≤ 512 }
     ensures within { result ≤ at + 11 }
     ensures text { take result out.new ≡ take at out.old ++ 32 ∷ decimal number }

@@ -1,16 +1,18 @@
-use Rattle.std.proofs.Common.{◌==◌, List, length, arith, ◌<◌, get_or, false, if◌then◌else◌}
-use Rattle.std.proofs.lemmas.List.{get_or_default}
-use Rattle.std.proofs.lemmas.List.Edits.{map_over_more}
+use Rattle.std.proofs.Common.{List, set, sym, ◌∙◌, ap, false}
 use Rattle.ecp_history.specs.Tables.{Stripe, Standing}
 use Rattle.ecp_history.specs.Steps.{change_row}
+use Rattle.ecp_history.proofs.OrderLaws.{none_changed, one_changed}
 use Rattle.ecp_history.proofs.stripe_list.give_up_in.Goals as goal
 
-changed : (Stripe → List Standing) → Stripe → Stripe
-changed change x = record { number = x.number; blocks = x.blocks; rows = change x }
+pub returns-in-Some : goal.returns-in-Some
+returns-in-Some c =
+    let xs = c.args.stripes.now in
+    let x = c.index-stripes-at.result in
+    let change : Stripe → List Standing = λ y. change_row (λ z. record { node = z.node; live = false }) c.args.row y.rows in
+    sym (one_changed change c.args.number xs c.in-Some.at x c.requires c.in-Some.ensures.within (c.in-Some.ensures.some x)
+    ∙ ap (λ (y : Stripe). set xs c.in-Some.at y) (sym c.give_up.ensures))
 
-pub loop-stripe-preserved : goal.loop-stripe-preserved
-unfolding changed
-loop-stripe-preserved c =
-    let within : c.loop-stripe.stripe-index < length c.loop-stripe.stripes = omega arith in
-    let item = c.stripe-item.result in
-    rw c.give_up_if.ensures (map_over_more (changed (λ x. if x.number == c.args.number then change_row (λ y. record { node = y.node; live = false }) c.args.row x.rows else x.rows)) c.args.stripes.now c.loop-stripe.stripes c.loop-stripe.stripe-index (get_or c.loop-stripe.stripes c.loop-stripe.stripe-index item) c.loop-stripe-test.true c.loop-stripe.invariant (get_or_default c.loop-stripe.stripes c.loop-stripe.stripe-index item (get_or c.loop-stripe.stripes c.loop-stripe.stripe-index item) within))
+pub returns-in_default : goal.returns-in_default
+returns-in_default c =
+    let change : Stripe → List Standing = λ y. change_row (λ z. record { node = z.node; live = false }) c.args.row y.rows in
+    sym (none_changed change c.args.number c.args.stripes.now c.in_default.ensures.none)

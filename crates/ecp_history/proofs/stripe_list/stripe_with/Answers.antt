@@ -1,48 +1,10 @@
-use Rattle.std.proofs.Common.{◌≡◌, ◌+◌, ◌-◌, ◌/◌, ◌<◌, Some, length, get_or, sym, ◌∙◌, ap, subst, drop, arith, ℕ}
+use Rattle.std.proofs.Common.{Some, sym, ◌∙◌, ap}
 use Rattle.ecp_history.specs.Tables.{Stripe}
-use Rattle.ecp_history.specs.Rising.{AllAbove}
-use Rattle.ecp_history.proofs.OrderLaws.{find-rising, below_upto, above_from, none_between}
+use Rattle.ecp_history.proofs.OrderLaws.{find-rising}
 use Rattle.ecp_history.proofs.stripe_list.stripe_with.Goals as goal
 
-pub returns-then-number : goal.returns-then-number
-returns-then-number c =
-    let xs = c.args.stripes.now in
-    let x = c.index-stripes-middle.result in
-    let i = c.loop-low.low + (c.loop-low.high - c.loop-low.low) / 2 in
-    let within : i < length xs = omega (arith, c.loop-low-test.true, c.loop-low.invariant.within) in
-    let is : (get_or xs i x).number ≡ c.args.number = ap (λ (y : Stripe). y.number) (sym c.index-stripes-middle.is) ∙ sym c.number.ensures ∙ c.if-number.true in
-    sym (find-rising xs i c.args.number x c.requires within is ∙ ap (λ (y : Stripe). Some y) (sym c.index-stripes-middle.is))
-
-pub loop-low-preserved-then-number-2 : goal.loop-low-preserved-then-number-2
-loop-low-preserved-then-number-2 c =
-    let xs = c.args.stripes.now in
-    let x = c.index-stripes-middle.result in
-    let i = c.loop-low.low + (c.loop-low.high - c.loop-low.low) / 2 in
-    let within : i < length xs = omega (arith, c.loop-low-test.true, c.loop-low.invariant.within) in
-    let is : x.number ≡ (get_or xs i x).number = ap (λ (y : Stripe). y.number) c.index-stripes-middle.is in
-    record {
-      ordered = omega (arith, c.loop-low-test.true);
-      within = c.loop-low.invariant.within;
-      below = below_upto xs i c.args.number x c.requires within (omega (arith, is, c.number-in-loop-low.ensures, c.if-number-2.true));
-      above = c.loop-low.invariant.above;
-    }
-
-pub loop-low-preserved : goal.loop-low-preserved
-loop-low-preserved c =
-    let xs = c.args.stripes.now in
-    let x = c.index-stripes-middle.result in
-    let i = c.loop-low.low + (c.loop-low.high - c.loop-low.low) / 2 in
-    let within : i < length xs = omega (arith, c.loop-low-test.true, c.loop-low.invariant.within) in
-    let is : x.number ≡ (get_or xs i x).number = ap (λ (y : Stripe). y.number) c.index-stripes-middle.is in
-    record {
-      ordered = omega arith;
-      within = omega (arith, within);
-      below = c.loop-low.invariant.below;
-      above = above_from xs i c.args.number x c.requires within (omega (arith, is, c.number.ensures, c.number-in-loop-low.ensures, c.if-number.false, c.if-number-2.false));
-    }
-
-pub returns : goal.returns
-returns c =
-    let xs = c.args.stripes.now in
-    let same : c.loop-low.high ≡ c.loop-low.low = omega (arith, c.loop-low-test.false, c.loop-low.invariant.ordered) in
-    sym (none_between xs c.loop-low.low c.args.number c.loop-low.invariant.below (subst (λ (i : ℕ). AllAbove c.args.number (drop i xs)) same c.loop-low.invariant.above))
+pub returns-in-Some : goal.returns-in-Some
+returns-in-Some c =
+    let x = c.index-stripes-at.result in
+    sym (find-rising c.args.stripes.now c.in-Some.at c.args.number x c.requires c.in-Some.ensures.within (c.in-Some.ensures.some x)
+    ∙ ap (λ (y : Stripe). Some y) (sym c.index-stripes-at.is))

@@ -1,6 +1,6 @@
 use Rattle.std.proofs.Common.{◌≤◌, ◌-◌, length, take, drop}
 use Rattle.ecp_history.specs.Rising.{AllBelow, AllAbove}
-use Rattle.ecp_history.proofs.stripe_list.stripe_with.Given as goal
+use Rattle.ecp_history.proofs.stripe_list.index_with.Given as goal
 
 abbrev pub invariant-loop-low : goal.invariant-loop-low
 invariant-loop-low l = record {
