@@ -329,14 +329,64 @@ fn reads_the_calls_of_a_script(rt: HostRuntime) -> Result<(), Fail> {
     Ok(())
 }
 
+// Prints what a head under four settings, with these lines more, is refused for.
+fn printed(alloc: Global, k: &str, n: &str, nodes: &str, more: &str) -> Result<String, Fail> {
+    let input = format!(in alloc; "k = {k}\nn = {n}\nnodes = {nodes}\n{more}\n---\nfetch\n")?;
+    let Some(refusal) = refusal(alloc, input.as_bytes()) else {
+        return Err(Fail::from("not refused"));
+    };
+    Ok(refusal.to_string(alloc)?)
+}
+
+#[test]
+fn prints_the_key_of_the_first_fault(rt: HostRuntime) -> Result<(), Fail> {
+    let alloc = rt.alloc();
+    for (k, n, nodes, more, want) in [
+        ("0", "17", "33", "block = 0", "head: k"),
+        ("2", "2", "33", "block = 0", "head: n"),
+        ("2", "3", "2", "block = 0", "head: nodes"),
+        ("2", "3", "3", "slice = 0", "head: block"),
+        (
+            "2",
+            "3",
+            "3",
+            "block = 5\nslice = 6\nwindow = 0",
+            "head: slice",
+        ),
+        (
+            "2",
+            "3",
+            "3",
+            "block = 5\nwindow = 17\nworkers = 9",
+            "head: window",
+        ),
+        (
+            "2",
+            "3",
+            "3",
+            "block = 5\nworkers = 9\npath = 1",
+            "head: workers",
+        ),
+        (
+            "2",
+            "3",
+            "3",
+            "block = 5\npath = \"ring\"\nx = 1",
+            "head: path",
+        ),
+        ("2", "3", "3", "block = 5\nx = 1", "head: unknown key"),
+    ] {
+        assert_eq!(rt; printed(alloc, k, n, nodes, more)?.as_str(), want);
+    }
+    Ok(())
+}
+
 #[test]
 fn prints_each_refusal(rt: HostRuntime) -> Result<(), Fail> {
     let alloc = rt.alloc();
     for (refusal, want) in [
-        (Refusal::NoRule, "head: no line ---"),
         (Refusal::NotToml, "head: not TOML"),
-        (Refusal::Key(Setting::K), "head: k"),
-        (Refusal::Key(Setting::Workers), "head: workers"),
+        (Refusal::NoRule, "head: no line ---"),
         (Refusal::UnknownKey, "head: unknown key"),
         (Refusal::Line(22), "line 22"),
         (Refusal::NoMemory, "no memory"),
