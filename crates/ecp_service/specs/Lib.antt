@@ -1,3 +1,11 @@
 pub mod Answers
-pub mod Stops
+pub mod Asked
+pub mod Faults
+pub mod Past
+pub mod PlainRun
+pub mod PlainText
+pub mod RunText
+pub mod Serves
+pub mod Settled
 pub mod Sinks
+pub mod Stops

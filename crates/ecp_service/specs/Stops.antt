@@ -1,11 +1,22 @@
 -- Why a command stops with nothing on its output, and what it says then.
-use Rattle.std.specs.Prelude.{ℕ, ◌≡◌, ◌+◌, List, length, codes}
+use Rattle.std.specs.Prelude.{ℕ, ◌≡◌, ◌+◌, List, [], ◌++◌, length, codes}
+use Rattle.ecp_command.specs.Accepted.{MayRefuse}
+use Rattle.ecp_command.specs.Texts.{refusal_text}
+use Rattle.ecp_command.specs.declared.refusal.Refusal.{Refusal}
+use Rattle.ecp_command.specs.declared.refusal.Refusal.TheVariants as refusal
 use Rattle.ecp_service.specs.declared.stop.Stop.{Stop}
-use Rattle.ecp_service.specs.declared.stop.Stop.TheVariants.{Usage, ReadFault, NoMemory, TooLong}
+use Rattle.ecp_service.specs.declared.stop.Stop.TheVariants.{Usage, Refused, ReadFault, NoMemory, TooLong}
+
+-- the status for an input that is not accepted: 3 for its head and 4 for a line of its script
+abbrev pub refusal_code : Refusal → ℕ
+refusal_code (refusal.Line number) = 4
+refusal_code refusal.NoMemory = 7
+refusal_code _ = 3
 
 -- the status of the program
 abbrev pub code_of : Stop → ℕ
 code_of Usage = 2
+code_of (Refused r) = refusal_code r
 code_of ReadFault = 5
 code_of NoMemory = 7
 code_of TooLong = 8
@@ -13,17 +24,29 @@ code_of TooLong = 8
 -- the line on the diagnostic sink
 abbrev pub line_of : Stop → List ℕ
 line_of Usage = codes "usage: ecpipe run | run-dir PATH | mend K N ROW | check | soak SEED\n"
+line_of (Refused r) = refusal_text r ++ codes "\n"
 line_of ReadFault = codes "input: read fault\n"
 line_of NoMemory = codes "no memory\n"
 line_of TooLong = codes "input: too long\n"
+
+-- the reason to stop at this refusal
+abbrev pub stop_at : Refusal → Stop
+stop_at refusal.NoMemory = NoMemory
+stop_at r = Refused r
 
 -- between what a source had left before and after lie 16 MiB and one byte more
 abbrev pub GaveTooMuch : List ℕ → List ℕ → Type 0
 GaveTooMuch before after = length before ≡ length after + 16777217
 
--- the reason holds: no words that ask for a command, a read that failed, too many bytes; memory may run out at any time
-abbrev pub IsReason : Type 0 → Type 0 → Type 0 → Stop → Type 0
-IsReason no_command failed too_much Usage = no_command
-IsReason no_command failed too_much ReadFault = failed
-IsReason no_command failed too_much NoMemory = Unit {0}
-IsReason no_command failed too_much TooLong = too_much
+-- what a source had left before was read to its end, and is refused so
+abbrev pub GaveRefused : List ℕ → List ℕ → Refusal → Type 0
+GaveRefused before after r = MayRefuse before r × (after ≡ [])
+
+-- the reason holds: no words that ask for a command, an input that is not accepted, a read that failed, too many bytes;
+-- memory may run out at any time
+abbrev pub IsReason : Type 0 → (Refusal → Type 0) → Type 0 → Type 0 → Stop → Type 0
+IsReason no_command refused failed too_much Usage = no_command
+IsReason no_command refused failed too_much (Refused r) = refused r
+IsReason no_command refused failed too_much ReadFault = failed
+IsReason no_command refused failed too_much NoMemory = Unit {0}
+IsReason no_command refused failed too_much TooLong = too_much

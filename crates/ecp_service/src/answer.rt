@@ -35,7 +35,9 @@ pub fn refuse<E: Sink>(diag: &mut E, stop: Stop) -> u8
     ensures part { GotPart (E.tells diag.old) (E.appended diag.old) (E.appended diag.new) (line_of stop) }
     ensures fault { result ≡ WRITE_FAULT → Rose (E.faults diag.old) (E.faults diag.new) }
 {
-    match write_all(diag, stop.line().as_bytes()) {
+    let mut line = [0; 512];
+    let end = stop.line(&mut line);
+    match write_all(diag, &line[..end]) {
         Ok(()) => stop.code(),
         Err(_) => WRITE_FAULT,
     }

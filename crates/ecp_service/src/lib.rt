@@ -2,15 +2,24 @@
 //!
 //! `top` reads the words of a command line and runs the command that they ask for: one read of the
 //! input to its end, the work, and one answer, on the output or as one line on the diagnostic sink.
-//! It stands on `ecp_command` for the words, on `ecp_code` for the rows of a stripe and on `ecp_store`
-//! for sources and sinks. The program above may rely on this: by the status, what each sink got and
-//! why, for any source and any sinks.
+//! `mend` rebuilds one row of a stripe, and `run` serves the calls of a script over a plain table.
+//!
+//! It stands on `ecp_command` for the words and the script, on `ecp_history` for the table, the journal and
+//! the replies, on `ecp_code` for the rows of a stripe and on `ecp_store` for sources and sinks. The program
+//! above may rely on this: by the status, what each sink got and why, for any source and any sinks.
 #![tactic(auto)]
 
 mod answer;
+mod buffer;
 mod command_line;
+mod journal_lines;
 mod mending;
+mod plain_call;
+mod plain_run;
 mod reading;
+mod reply_lines;
+mod run_lines;
+mod running;
 mod stop;
 mod writing;
 

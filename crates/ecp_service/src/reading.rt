@@ -1,7 +1,7 @@
-ghost use Rattle.std.specs.Prelude.{◌≡◌, ◌≢◌, ◌+◌, ◌<◌, ◌≤◌, ◌↔◌, [], ◌++◌, length, take, vec_len, IsTrue, IfOk, IfErr, OnOk};
+ghost use Rattle.std.specs.Prelude.{◌≡◌, ◌+◌, ◌<◌, ◌≤◌, [], ◌++◌, length, take, vec_len, IsTrue, IfOk, IfErr, OnOk};
 ghost use Rattle.ecp_store.specs.Faults.{Rose, HasCause};
-ghost use Rattle.ecp_service.specs.Stops.{GaveTooMuch};
-ghost use Rattle.ecp_service.specs.declared.stop.Stop.TheVariants.{Usage, ReadFault, NoMemory, TooLong};
+ghost use Rattle.ecp_service.specs.Stops.{GaveTooMuch, IsReason};
+ghost use Rattle.ecp_service.specs.declared.stop.Stop.TheVariants.{TooLong};
 
 use crate::Stop;
 use ecp_store::{Failed, Source};
@@ -48,10 +48,10 @@ pub fn read_to_end<R: Source>(alloc: Global, input: &mut R) -> Result<Vec<u8>, S
     ensures all { IsTrue (R.tells input.old) →
         IfOk result (λ bytes. (bytes.items ≡ R.left input.old) × (R.left input.new ≡ [])) }
     ensures within { IfOk result (λ bytes. vec_len bytes ≤ LIMIT) }
-    ensures fault { result ≡ Err ReadFault → Rose (R.faults input.old) (R.faults input.new) }
+    ensures err { IfErr result (IsReason ⊥ (λ _. ⊥) (Rose (R.faults input.old) (R.faults input.new))
+        (IsTrue (R.tells input.old) → GaveTooMuch (R.left input.old) (R.left input.new))) }
     ensures too_long { IsTrue (R.tells input.old) →
-        (result ≡ Err TooLong) ↔ GaveTooMuch (R.left input.old) (R.left input.new) }
-    ensures about_input { result ≢ Err Usage }
+        GaveTooMuch (R.left input.old) (R.left input.new) → result ≡ Err TooLong }
 {
     let mut buf = Vec::new(alloc);
     let mut filled = 0;

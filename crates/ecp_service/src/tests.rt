@@ -1,3 +1,5 @@
+mod scripts;
+
 use super::*;
 use ecp_store::{MemSink, MemSource};
 use std::alloc::{AllocError, Global};
@@ -130,6 +132,7 @@ fn says_why_it_stops(rt: HostRuntime) -> Result<(), Fail> {
 #[test]
 fn an_input_past_its_limit_is_too_long(rt: HostRuntime) -> Result<(), Fail> {
     let run = Run {
+        words: "run",
         status: 8,
         out: b"",
         diag: b"input: too long\n",

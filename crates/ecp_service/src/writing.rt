@@ -5,7 +5,7 @@ ghost use Rattle.ecp_service.specs.Sinks.{GotAll, GotPart};
 use ecp_store::{Failed, Sink};
 
 /// Appends the whole text. After a failure the sink has a beginning of it.
-fn push_all<W: Sink>(sink: &mut W, text: &[u8]) -> Result<(), Failed>
+pub(crate) fn push_all<W: Sink>(sink: &mut W, text: &[u8]) -> Result<(), Failed>
     ensures ok { IsTrue (W.tells sink.old) → OnOk result (W.appended sink.new ≡ W.appended sink.old ++ text.now) }
     ensures part { GotPart (W.tells sink.old) (W.appended sink.old) (W.appended sink.new) text.now }
     ensures tells { W.tells sink.new ≡ W.tells sink.old }

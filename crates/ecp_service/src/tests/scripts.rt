@@ -1,0 +1,290 @@
+use super::*;
+
+fn refused(input: &'static [u8], status: u8, diag: &'static [u8]) -> Run {
+    Run {
+        input,
+        ..stop("run", status, diag)
+    }
+}
+
+#[test]
+fn serves_the_calls_of_a_script(rt: HostRuntime) -> Result<(), Fail> {
+    let runs = [
+        row(
+            "run",
+            b"\
+            k = 2\n\
+            n = 3\n\
+            nodes = 3\n\
+            block = 1\n\
+            ---\n\
+            put a hex 4142\n\
+            lose 0\n\
+            read a 0\n\
+            ",
+            b"\
+            session 0\n\
+            stored 0 1\n\
+            lost 1\n\
+            data 41\n\
+            journal 3\n\
+            0 s0 0 end 0 stored 0 1 7\n\
+            1 s0 1 end 1 lost 1\n\
+            2 s0 2 end 2 data\n\
+            end\n\
+            ",
+        ),
+        row(
+            "run",
+            b"\
+            k = 2\n\
+            n = 3\n\
+            nodes = 3\n\
+            block = 1\n\
+            ---\n\
+            put a hex 4142\n\
+            lose 0\n\
+            read a 0\n\
+            lose 1\n\
+            read a 0\n\
+            ",
+            b"\
+            session 0\n\
+            stored 0 1\n\
+            lost 1\n\
+            data 41\n\
+            lost 1\n\
+            unrecoverable 1\n\
+            journal 5\n\
+            0 s0 0 end 0 stored 0 1 7\n\
+            1 s0 1 end 1 lost 1\n\
+            2 s0 2 end 2 data\n\
+            3 s0 3 end 3 lost 1\n\
+            4 s0 4 end 4 unrecoverable 1\n\
+            end\n\
+            ",
+        ),
+        row(
+            "run",
+            b"\
+            k = 2\n\
+            n = 3\n\
+            nodes = 3\n\
+            block = 1\n\
+            ---\n\
+            put a hex 4142\n\
+            lose 0\n\
+            read a 0\n\
+            read a 2\n\
+            read b 0\n\
+            ",
+            b"\
+            session 0\n\
+            stored 0 1\n\
+            lost 1\n\
+            data 41\n\
+            no-block 2\n\
+            no-file\n\
+            journal 5\n\
+            0 s0 0 end 0 stored 0 1 7\n\
+            1 s0 1 end 1 lost 1\n\
+            2 s0 2 end 2 data\n\
+            3 s0 3 end 3 no-block 2\n\
+            4 s0 4 end 4 no-file\n\
+            end\n\
+            ",
+        ),
+        row(
+            "run",
+            b"\
+            k = 2\n\
+            n = 3\n\
+            nodes = 3\n\
+            block = 1\n\
+            ---\n\
+            put a hex 41\n\
+            put a hex 42\n\
+            read a 0\n\
+            read a 1\n\
+            ",
+            b"\
+            session 0\n\
+            stored 0 1\n\
+            name-taken\n\
+            data 41\n\
+            no-block 1\n\
+            journal 4\n\
+            0 s0 0 end 0 stored 0 1 7\n\
+            1 s0 1 end 1 name-taken\n\
+            2 s0 2 end 2 data\n\
+            3 s0 3 end 3 no-block 1\n\
+            end\n\
+            ",
+        ),
+        row(
+            "run",
+            b"\
+            k = 2\n\
+            n = 3\n\
+            nodes = 3\n\
+            block = 1\n\
+            ---\n\
+            put e hex -\n\
+            read e 0\n\
+            ",
+            b"\
+            session 0\n\
+            stored 0 0\n\
+            no-block 0\n\
+            journal 2\n\
+            0 s0 0 end 0 stored 0 0 7\n\
+            1 s0 1 end 1 no-block 0\n\
+            end\n\
+            ",
+        ),
+        row(
+            "run",
+            b"\
+            k = 2\n\
+            n = 3\n\
+            nodes = 3\n\
+            block = 5\n\
+            slice = 2\n\
+            ---\n\
+            put a hex 0102030405060708090a\n\
+            lose 0\n\
+            read a 0\n\
+            ",
+            b"\
+            session 0\n\
+            stored 0 1\n\
+            lost 1\n\
+            data 0102030405\n\
+            journal 3\n\
+            0 s0 0 end 0 stored 0 1 7\n\
+            1 s0 1 end 1 lost 1\n\
+            2 s0 2 end 2 data\n\
+            end\n\
+            ",
+        ),
+        row(
+            "run",
+            b"\
+            k = 2\n\
+            n = 3\n\
+            nodes = 3\n\
+            block = 1\n\
+            ---\n\
+            session 3\n\
+            lose 0\n\
+            put a hex 41\n\
+            lose 0\n\
+            lose 3\n\
+            ",
+            b"\
+            session 3\n\
+            lost 0\n\
+            few-nodes 2\n\
+            node-down\n\
+            no-node\n\
+            journal 4\n\
+            0 s3 0 end 0 lost 0\n\
+            1 s3 1 end 1 few-nodes 2\n\
+            2 s3 2 end 2 node-down\n\
+            3 s3 3 end 3 no-node\n\
+            end\n\
+            ",
+        ),
+        row(
+            "run",
+            b"\
+            k = 2\n\
+            n = 3\n\
+            nodes = 3\n\
+            block = 1\n\
+            ---\n\
+            ",
+            b"journal 0\nend\n",
+        ),
+    ];
+    each_leaves(&rt, rt.alloc(), &runs)
+}
+
+#[test]
+fn says_which_fault_of_an_input_is_the_first(rt: HostRuntime) -> Result<(), Fail> {
+    let runs = [
+        refused(b"n = 3\nnodes = 3\nblock = 1\n---\n", 3, b"head: k\n"),
+        refused(b"k = 2\n", 3, b"head: no line ---\n"),
+        refused(b"k\n---\n", 3, b"head: not TOML\n"),
+        refused(
+            b"\
+            k = 2\n\
+            n = 3\n\
+            nodes = 3\n\
+            block = 1\n\
+            color = 1\n\
+            ---\n\
+            ",
+            3,
+            b"head: unknown key\n",
+        ),
+        refused(
+            b"\
+            k = 2\n\
+            n = 3\n\
+            nodes = 3\n\
+            block = 1\n\
+            ---\n\
+            fetch a 0\n\
+            ",
+            4,
+            b"line 6\n",
+        ),
+        refused(
+            b"\
+            k = 2\n\
+            n = 3\n\
+            nodes = 3\n\
+            block = 1\n\
+            ---\n\
+            put a hex 414\n\
+            ",
+            4,
+            b"line 6\n",
+        ),
+        Run {
+            failing_pulls: &[1],
+            ..refused(
+                b"\
+                k = 2\n\
+                n = 3\n\
+                nodes = 3\n\
+                block = 1\n\
+                ---\n\
+                put a hex 4142\n\
+                lose 0\n\
+                read a 0\n\
+                ",
+                5,
+                b"input: read fault\n",
+            )
+        },
+    ];
+    each_leaves(&rt, rt.alloc(), &runs)
+}
+
+#[test]
+fn a_fault_of_the_output_cuts_the_text_short(rt: HostRuntime) -> Result<(), Fail> {
+    let run = Run {
+        words: "run",
+        input: b"k = 2\nn = 3\nnodes = 3\nblock = 1\n---\nput a hex 4142\nlose 0\nread a 0\n",
+        piece: 1,
+        failing_pushes: &[8],
+        status: WRITE_FAULT,
+        out: b"session ",
+        ..DONE_RUN
+    };
+    let bytes = run.input.to_vec(rt.alloc())?;
+    assert!(rt; leaves(rt.alloc(), &run, bytes)?);
+    Ok(())
+}
