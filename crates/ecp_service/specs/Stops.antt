@@ -1,5 +1,5 @@
 -- Why a command stops with nothing on its output, and what it says then.
-use Rattle.std.specs.Prelude.{ℕ, ◌≡◌, ◌+◌, List, [], ◌++◌, length, codes}
+use Rattle.std.specs.Prelude.{ℕ, ◌≡◌, ◌+◌, Bool, IsTrue, List, [], ◌++◌, length, codes}
 use Rattle.ecp_command.specs.Accepted.{MayRefuse}
 use Rattle.ecp_command.specs.Texts.{refusal_text}
 use Rattle.ecp_command.specs.declared.refusal.Refusal.{Refusal}
@@ -42,11 +42,11 @@ GaveTooMuch before after = length before ≡ length after + 16777217
 abbrev pub GaveRefused : List ℕ → List ℕ → Refusal → Type 0
 GaveRefused before after r = MayRefuse before r × (after ≡ [])
 
--- the reason holds: no words that ask for a command, an input that is not accepted, a read that failed, too many bytes;
--- memory may run out at any time
-abbrev pub IsReason : Type 0 → (Refusal → Type 0) → Type 0 → Type 0 → Stop → Type 0
-IsReason no_command refused failed too_much Usage = no_command
-IsReason no_command refused failed too_much (Refused r) = refused r
-IsReason no_command refused failed too_much ReadFault = failed
-IsReason no_command refused failed too_much NoMemory = Unit {0}
-IsReason no_command refused failed too_much TooLong = too_much
+-- the reason holds: no words that ask for a command; words that ask for a script, and an input that is none; a read that
+-- failed; too many bytes. Memory may run out at any time. Of its bytes a source says something only where it tells
+abbrev pub IsReason : Type 0 → Type 0 → Type 0 → Bool → List ℕ → List ℕ → Stop → Type 0
+IsReason no_command script failed tells before after Usage = no_command
+IsReason no_command script failed tells before after (Refused r) = script × (IsTrue tells → GaveRefused before after r)
+IsReason no_command script failed tells before after ReadFault = failed
+IsReason no_command script failed tells before after NoMemory = Unit {0}
+IsReason no_command script failed tells before after TooLong = IsTrue tells → GaveTooMuch before after

@@ -6,7 +6,7 @@ ghost use Rattle.ecp_command.specs.Accepted.{MayRefuse};
 ghost use Rattle.ecp_command.specs.declared.refusal.Refusal.{Refusal};
 ghost use Rattle.ecp_service.specs.Answers.{Asks, IsAnswer, Takes};
 ghost use Rattle.ecp_service.specs.Sinks.{GotAll, GotPart, GotNothing};
-ghost use Rattle.ecp_service.specs.Stops.{code_of, line_of, IsReason, GaveRefused, GaveTooMuch};
+ghost use Rattle.ecp_service.specs.Stops.{code_of, line_of, IsReason, GaveTooMuch};
 ghost use Rattle.ecp_service.specs.declared.answer.TheConstants.{DONE, WRITE_FAULT};
 ghost use Rattle.ecp_service.specs.declared.reading.TheConstants.{LIMIT};
 ghost use Rattle.ecp_service.specs.declared.stop.Stop.{Stop};
@@ -47,9 +47,8 @@ pub fn top<R: Source, W: Sink, E: Sink>(
 
     // Stopped, for a reason that holds and is told.
     ensures stopped { result ≢ DONE → result ≢ WRITE_FAULT → (stop : Stop) × (result ≡ code_of stop)
-        × IsReason ((command : Command) → ¬ Asks (texts words.now) command)
-        (λ refusal. Asks (texts words.now) Command.Run × (IsTrue (R.tells input.old) → GaveRefused (R.left input.old) (R.left input.new) refusal))
-        (Rose (R.faults input.old) (R.faults input.new)) (IsTrue (R.tells input.old) → GaveTooMuch (R.left input.old) (R.left input.new)) stop
+        × IsReason ((command : Command) → ¬ Asks (texts words.now) command) (Asks (texts words.now) Command.Run)
+        (Rose (R.faults input.old) (R.faults input.new)) (R.tells input.old) (R.left input.old) (R.left input.new) stop
         × GotAll (E.tells diag.old) (E.appended diag.old) (E.appended diag.new) (E.flushed diag.new) (line_of stop) }
     ensures nothing { result ≢ DONE → result ≢ WRITE_FAULT → GotNothing (W.tells out.old) (W.appended out.old) (W.appended out.new) }
 
@@ -60,9 +59,8 @@ pub fn top<R: Source, W: Sink, E: Sink>(
         × GotPart (W.tells out.old) (W.appended out.old) (W.appended out.new) text))
         × GotNothing (E.tells diag.old) (E.appended diag.old) (E.appended diag.new))
         ⊎ (Rose (E.faults diag.old) (E.faults diag.new)
-        × ((stop : Stop) × IsReason ((command : Command) → ¬ Asks (texts words.now) command)
-        (λ refusal. Asks (texts words.now) Command.Run × (IsTrue (R.tells input.old) → GaveRefused (R.left input.old) (R.left input.new) refusal))
-        (Rose (R.faults input.old) (R.faults input.new)) (IsTrue (R.tells input.old) → GaveTooMuch (R.left input.old) (R.left input.new)) stop
+        × ((stop : Stop) × IsReason ((command : Command) → ¬ Asks (texts words.now) command) (Asks (texts words.now) Command.Run)
+        (Rose (R.faults input.old) (R.faults input.new)) (R.tells input.old) (R.left input.old) (R.left input.new) stop
         × GotPart (E.tells diag.old) (E.appended diag.old) (E.appended diag.new) (line_of stop))
         × GotNothing (W.tells out.old) (W.appended out.old) (W.appended out.new)) }
 

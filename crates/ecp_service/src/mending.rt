@@ -20,8 +20,7 @@ fn rebuild<R: Source>(alloc: Global, k: u32, n: u32, row: u32, input: &mut R) ->
     requires { IsRow k n row }
     ensures row { IsTrue (R.tells input.old) →
         IfOk result (λ block. (block ≡ rebuilt k row (R.left input.old)) × (R.left input.new ≡ [])) }
-    ensures err { IfErr result (IsReason ⊥ (λ _. ⊥) (Rose (R.faults input.old) (R.faults input.new))
-        (IsTrue (R.tells input.old) → GaveTooMuch (R.left input.old) (R.left input.new))) }
+    ensures err { IfErr result (IsReason ⊥ ⊥ (Rose (R.faults input.old) (R.faults input.new)) (R.tells input.old) (R.left input.old) (R.left input.new)) }
     ensures too_long { IsTrue (R.tells input.old) →
         GaveTooMuch (R.left input.old) (R.left input.new) → result ≡ Err Stop.TooLong }
 {
@@ -62,7 +61,7 @@ pub fn mend<R: Source, W: Sink, E: Sink>(
 
     // Stopped, for a reason that holds and is told.
     ensures stopped { result ≢ DONE → result ≢ WRITE_FAULT → (stop : Stop) × (result ≡ code_of stop)
-        × IsReason ⊥ (λ _. ⊥) (Rose (R.faults input.old) (R.faults input.new)) (IsTrue (R.tells input.old) → GaveTooMuch (R.left input.old) (R.left input.new)) stop
+        × IsReason ⊥ ⊥ (Rose (R.faults input.old) (R.faults input.new)) (R.tells input.old) (R.left input.old) (R.left input.new) stop
         × GotAll (E.tells diag.old) (E.appended diag.old) (E.appended diag.new) (E.flushed diag.new) (line_of stop) }
     ensures nothing { result ≢ DONE → result ≢ WRITE_FAULT → GotNothing (W.tells out.old) (W.appended out.old) (W.appended out.new) }
 
@@ -72,7 +71,7 @@ pub fn mend<R: Source, W: Sink, E: Sink>(
         × (IsTrue (R.tells input.old) → GotPart (W.tells out.old) (W.appended out.old) (W.appended out.new) (rebuilt k row (R.left input.old)))
         × GotNothing (E.tells diag.old) (E.appended diag.old) (E.appended diag.new))
         ⊎ (Rose (E.faults diag.old) (E.faults diag.new)
-        × ((stop : Stop) × IsReason ⊥ (λ _. ⊥) (Rose (R.faults input.old) (R.faults input.new)) (IsTrue (R.tells input.old) → GaveTooMuch (R.left input.old) (R.left input.new)) stop
+        × ((stop : Stop) × IsReason ⊥ ⊥ (Rose (R.faults input.old) (R.faults input.new)) (R.tells input.old) (R.left input.old) (R.left input.new) stop
         × GotPart (E.tells diag.old) (E.appended diag.old) (E.appended diag.new) (line_of stop))
         × GotNothing (W.tells out.old) (W.appended out.old) (W.appended out.new)) }
 

@@ -48,8 +48,7 @@ pub fn read_to_end<R: Source>(alloc: Global, input: &mut R) -> Result<Vec<u8>, S
     ensures all { IsTrue (R.tells input.old) →
         IfOk result (λ bytes. (bytes.items ≡ R.left input.old) × (R.left input.new ≡ [])) }
     ensures within { IfOk result (λ bytes. vec_len bytes ≤ LIMIT) }
-    ensures err { IfErr result (IsReason ⊥ (λ _. ⊥) (Rose (R.faults input.old) (R.faults input.new))
-        (IsTrue (R.tells input.old) → GaveTooMuch (R.left input.old) (R.left input.new))) }
+    ensures err { IfErr result (IsReason ⊥ ⊥ (Rose (R.faults input.old) (R.faults input.new)) (R.tells input.old) (R.left input.old) (R.left input.new)) }
     ensures too_long { IsTrue (R.tells input.old) →
         GaveTooMuch (R.left input.old) (R.left input.new) → result ≡ Err TooLong }
 {

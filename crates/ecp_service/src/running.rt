@@ -1,4 +1,4 @@
-ghost use Rattle.std.specs.Prelude.{◌≡◌, ◌≢◌, ℕ, List, ◌≤◌, ◌⊎◌, [], ◌∷◌, length, map, option_map, slice_get, IsTrue, IfOk, IfErr};
+ghost use Rattle.std.specs.Prelude.{◌≡◌, ◌≢◌, ℕ, List, ◌≤◌, ◌⊎◌, [], ◌∷◌, length, map, option_map, slice_get, IsTrue, IfOk, IfErr, ⊤};
 ghost use Rattle.ecp_command.specs.Accepted.{Content, view, IsAccepted, MayRefuse};
 ghost use Rattle.ecp_command.specs.Calls.{SessionCalls};
 ghost use Rattle.ecp_command.specs.declared.refusal.Refusal.{Refusal};
@@ -9,7 +9,7 @@ ghost use Rattle.ecp_service.specs.Asked.{shape_of as shape_in};
 ghost use Rattle.ecp_service.specs.PlainRun.{read_bytes, served_history, IsServed};
 ghost use Rattle.ecp_service.specs.PlainText.{plain_text};
 ghost use Rattle.ecp_service.specs.Sinks.{GotAll, GotPart, GotNothing};
-ghost use Rattle.ecp_service.specs.Stops.{code_of, line_of, IsReason, GaveRefused, GaveTooMuch};
+ghost use Rattle.ecp_service.specs.Stops.{code_of, line_of, IsReason, GaveTooMuch};
 ghost use Rattle.ecp_service.specs.declared.answer.TheConstants.{DONE, WRITE_FAULT};
 ghost use Rattle.ecp_service.specs.declared.reading.TheConstants.{LIMIT};
 ghost use Rattle.ecp_service.specs.declared.stop.Stop.{Stop};
@@ -76,8 +76,7 @@ fn run_input<R: Source>(alloc: Global, input: &mut R) -> Result<Ran, Stop>
     ensures whole { IsTrue (R.tells input.old) → IfOk result (λ _. R.left input.new ≡ []) }
     ensures paired { IfOk result (λ ran. length ran.run.blocks.items ≡ length ran.run.journal.lines) }
     ensures buffer { IfOk result (λ ran. ran.buffer ≡ []) }
-    ensures err { IfErr result (IsReason ⊥ (λ refusal. IsTrue (R.tells input.old) → GaveRefused (R.left input.old) (R.left input.new) refusal)
-        (Rose (R.faults input.old) (R.faults input.new)) (IsTrue (R.tells input.old) → GaveTooMuch (R.left input.old) (R.left input.new))) }
+    ensures err { IfErr result (IsReason ⊥ ⊤ (Rose (R.faults input.old) (R.faults input.new)) (R.tells input.old) (R.left input.old) (R.left input.new)) }
     ensures too_long { IsTrue (R.tells input.old) → GaveTooMuch (R.left input.old) (R.left input.new) → result ≡ Err stop.TooLong }
 {
     let bytes = read_to_end(alloc, input)?;
@@ -111,8 +110,7 @@ pub(crate) fn run<R: Source, W: Sink, E: Sink>(
 
     // Stopped, for a reason that holds and is told.
     ensures stopped { result ≢ DONE → result ≢ WRITE_FAULT → (stop : Stop) × (result ≡ code_of stop)
-        × IsReason ⊥ (λ refusal. IsTrue (R.tells input.old) → GaveRefused (R.left input.old) (R.left input.new) refusal)
-        (Rose (R.faults input.old) (R.faults input.new)) (IsTrue (R.tells input.old) → GaveTooMuch (R.left input.old) (R.left input.new)) stop
+        × IsReason ⊥ ⊤ (Rose (R.faults input.old) (R.faults input.new)) (R.tells input.old) (R.left input.old) (R.left input.new) stop
         × GotAll (E.tells diag.old) (E.appended diag.old) (E.appended diag.new) (E.flushed diag.new) (line_of stop) }
     ensures nothing { result ≢ DONE → result ≢ WRITE_FAULT → GotNothing (W.tells out.old) (W.appended out.old) (W.appended out.new) }
 
@@ -122,8 +120,7 @@ pub(crate) fn run<R: Source, W: Sink, E: Sink>(
         × (IsTrue (R.tells input.old) → (text : List ℕ) × IsRunOf (R.left input.old) text × GotPart (W.tells out.old) (W.appended out.old) (W.appended out.new) text)
         × GotNothing (E.tells diag.old) (E.appended diag.old) (E.appended diag.new))
         ⊎ (Rose (E.faults diag.old) (E.faults diag.new)
-        × ((stop : Stop) × IsReason ⊥ (λ refusal. IsTrue (R.tells input.old) → GaveRefused (R.left input.old) (R.left input.new) refusal)
-        (Rose (R.faults input.old) (R.faults input.new)) (IsTrue (R.tells input.old) → GaveTooMuch (R.left input.old) (R.left input.new)) stop
+        × ((stop : Stop) × IsReason ⊥ ⊤ (Rose (R.faults input.old) (R.faults input.new)) (R.tells input.old) (R.left input.old) (R.left input.new) stop
         × GotPart (E.tells diag.old) (E.appended diag.old) (E.appended diag.new) (line_of stop))
         × GotNothing (W.tells out.old) (W.appended out.old) (W.appended out.new)) }
 
