@@ -74,7 +74,7 @@ of_one input content s accepted range one served =
     below shape r = omega (arith, r.parity_rows)
 
 -- the text of the run of an accepted input
-run_of : (input : List ℕ) (content : Content) → IsAccepted input content → IsInRange (shape_of content.head)
+pub run_of : (input : List ℕ) (content : Content) → IsAccepted input content → IsInRange (shape_of content.head)
     → IsRunOf input (text_of content (option_map (λ s. s.number) (slice_get content.sessions 0)) (served_history content))
 run_of input content accepted range = elim (accepted_one input content accepted) [
   | inl none ↦ subst (λ (ss : List SessionCalls). IsRunOf input (text_of content (option_map (λ s. s.number) (slice_get ss 0)) (option_map_or (λ s. plain_history (shape_of content.head) s.number s.calls) (slice_get ss 0) [])))
@@ -82,9 +82,3 @@ run_of input content accepted range = elim (accepted_one input content accepted)
   | inr one ↦ subst (λ (ss : List SessionCalls). IsRunOf input (text_of content (option_map (λ s. s.number) (slice_get ss 0)) (option_map_or (λ s. plain_history (shape_of content.head) s.number s.calls) (slice_get ss 0) [])))
       (sym one.1) (of_one input content one.0 accepted range one.1 one.2)
 ]
-
--- the same of the bytes that were read
-pub run_of_read : (input read : List ℕ) (content : Content) → read ≡ input → IsAccepted read content → IsInRange (shape_of content.head)
-    → IsRunOf input (text_of content (option_map (λ s. s.number) (slice_get content.sessions 0)) (served_history content))
-run_of_read input read content is accepted range =
-    subst (λ (bytes : List ℕ). IsRunOf bytes (text_of content (option_map (λ s. s.number) (slice_get content.sessions 0)) (served_history content))) is (run_of read content accepted range)

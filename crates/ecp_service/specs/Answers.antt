@@ -1,5 +1,5 @@
 -- What a command answers on its output.
-use Rattle.std.specs.Prelude.{◌≡◌, ℕ, true, false, List, length}
+use Rattle.std.specs.Prelude.{◌≡◌, ℕ, Bool, true, false, IsTrue, List, length}
 use Rattle.std.specs.List.{list_any}
 use Rattle.ecp_code.specs.Rows.{row}
 use Rattle.ecp_code.specs.Stripes.{blocks, stripe_len}
@@ -40,6 +40,12 @@ abbrev pub IsAnswer : Command → List ℕ → List ℕ → Type 0
 IsAnswer (Mend k n t) bytes text = text ≡ rebuilt k t bytes
 IsAnswer Run bytes text = IsRunOf bytes text
 IsAnswer _ bytes text = ⊥
+
+-- the text is the answer of the command to the input that a source gave: where it tells, to what it had left before
+pub record AnswersSource (command : Command) (tells : Bool) (before text : List ℕ) : Type 0 where
+  pub bytes : List ℕ
+  pub given : IsTrue tells → bytes ≡ before
+  pub answer : IsAnswer command bytes text
 
 -- the words ask for a command that the program serves
 abbrev pub Asks : List (List ℕ) → Command → Type 0

@@ -4,7 +4,7 @@ ghost use Rattle.ecp_command.specs.Words.{texts};
 ghost use Rattle.ecp_command.specs.declared.commands.Command.{Command};
 ghost use Rattle.ecp_command.specs.Accepted.{MayRefuse};
 ghost use Rattle.ecp_command.specs.declared.refusal.Refusal.{Refusal};
-ghost use Rattle.ecp_service.specs.Answers.{Asks, IsAnswer, Takes};
+ghost use Rattle.ecp_service.specs.Answers.{AnswersSource, Asks, Takes};
 ghost use Rattle.ecp_service.specs.Sinks.{GotAll, GotPart, GotNothing};
 ghost use Rattle.ecp_service.specs.Stops.{code_of, line_of, IsReason, GaveTooMuch};
 ghost use Rattle.ecp_service.specs.declared.answer.TheConstants.{DONE, WRITE_FAULT};
@@ -40,7 +40,7 @@ pub fn top<R: Source, W: Sink, E: Sink>(
 ) -> u8
     // Done: the input was read to its end, and the answer of the command that the words ask for is written.
     ensures done { result ≡ DONE → (command : Command) × Asks (texts words.now) command
-        × (IsTrue (R.tells input.old) → (text : List ℕ) × IsAnswer command (R.left input.old) text
+        × ((text : List ℕ) × AnswersSource command (R.tells input.old) (R.left input.old) text
         × GotAll (W.tells out.old) (W.appended out.old) (W.appended out.new) (W.flushed out.new) text) }
     ensures read_whole { result ≡ DONE → IsTrue (R.tells input.old) → R.left input.new ≡ [] }
     ensures quiet { result ≡ DONE → GotNothing (E.tells diag.old) (E.appended diag.old) (E.appended diag.new) }
@@ -55,7 +55,7 @@ pub fn top<R: Source, W: Sink, E: Sink>(
     // A write fault cut the answer short, or the line of such a reason.
     ensures cut_short { result ≡ WRITE_FAULT →
         (Rose (W.faults out.old) (W.faults out.new)
-        × ((command : Command) × Asks (texts words.now) command × (IsTrue (R.tells input.old) → (text : List ℕ) × IsAnswer command (R.left input.old) text
+        × ((command : Command) × Asks (texts words.now) command × ((text : List ℕ) × AnswersSource command (R.tells input.old) (R.left input.old) text
         × GotPart (W.tells out.old) (W.appended out.old) (W.appended out.new) text))
         × GotNothing (E.tells diag.old) (E.appended diag.old) (E.appended diag.new))
         ⊎ (Rose (E.faults diag.old) (E.faults diag.new)

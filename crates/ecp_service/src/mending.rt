@@ -1,7 +1,8 @@
-ghost use Rattle.std.specs.Prelude.{◌≡◌, ◌≢◌, ℕ, ◌<◌, ◌≤◌, ◌⊎◌, [], length, IsTrue, IfOk, IfErr};
+ghost use Rattle.std.specs.Prelude.{◌≡◌, ◌≢◌, ℕ, ◌<◌, ◌≤◌, ◌⊎◌, List, [], length, IsTrue, IfOk, IfErr};
 ghost use Rattle.ecp_store.specs.Faults.{Rose};
 ghost use Rattle.ecp_command.specs.Words.{IsRow};
-ghost use Rattle.ecp_service.specs.Answers.{rebuilt};
+ghost use Rattle.ecp_command.specs.declared.commands.Command.{Command};
+ghost use Rattle.ecp_service.specs.Answers.{AnswersSource};
 ghost use Rattle.ecp_service.specs.Sinks.{GotAll, GotPart, GotNothing};
 ghost use Rattle.ecp_service.specs.Stops.{code_of, line_of, IsReason, GaveTooMuch};
 ghost use Rattle.ecp_service.specs.declared.answer.TheConstants.{DONE, WRITE_FAULT};
@@ -18,8 +19,8 @@ use std::alloc::Global;
 /// The row of the input that it is asked for.
 fn rebuild<R: Source>(alloc: Global, k: u32, n: u32, row: u32, input: &mut R) -> Result<Block, Stop>
     requires { IsRow k n row }
-    ensures row { IsTrue (R.tells input.old) →
-        IfOk result (λ block. (block ≡ rebuilt k row (R.left input.old)) × (R.left input.new ≡ [])) }
+    ensures row { IfOk result (AnswersSource (Command.Mend k n row) (R.tells input.old) (R.left input.old)) }
+    ensures whole { IsTrue (R.tells input.old) → IfOk result (λ _. R.left input.new ≡ []) }
     ensures err { IfErr result (IsReason ⊥ ⊥ (Rose (R.faults input.old) (R.faults input.new)) (R.tells input.old) (R.left input.old) (R.left input.new)) }
     ensures too_long { IsTrue (R.tells input.old) →
         GaveTooMuch (R.left input.old) (R.left input.new) → result ≡ Err Stop.TooLong }
@@ -54,8 +55,8 @@ pub fn mend<R: Source, W: Sink, E: Sink>(
     requires { IsRow k n row }
 
     // Done: the input was read to its end, and the row of it is written.
-    ensures done { result ≡ DONE → IsTrue (R.tells input.old) →
-        GotAll (W.tells out.old) (W.appended out.old) (W.appended out.new) (W.flushed out.new) (rebuilt k row (R.left input.old)) }
+    ensures done { result ≡ DONE → (text : List ℕ) × AnswersSource (Command.Mend k n row) (R.tells input.old) (R.left input.old) text
+        × GotAll (W.tells out.old) (W.appended out.old) (W.appended out.new) (W.flushed out.new) text }
     ensures read_whole { result ≡ DONE → IsTrue (R.tells input.old) → R.left input.new ≡ [] }
     ensures quiet { result ≡ DONE → GotNothing (E.tells diag.old) (E.appended diag.old) (E.appended diag.new) }
 
@@ -68,7 +69,8 @@ pub fn mend<R: Source, W: Sink, E: Sink>(
     // A write fault cut the row short, or the line of such a reason.
     ensures cut_short { result ≡ WRITE_FAULT →
         (Rose (W.faults out.old) (W.faults out.new)
-        × (IsTrue (R.tells input.old) → GotPart (W.tells out.old) (W.appended out.old) (W.appended out.new) (rebuilt k row (R.left input.old)))
+        × ((text : List ℕ) × AnswersSource (Command.Mend k n row) (R.tells input.old) (R.left input.old) text
+        × GotPart (W.tells out.old) (W.appended out.old) (W.appended out.new) text)
         × GotNothing (E.tells diag.old) (E.appended diag.old) (E.appended diag.new))
         ⊎ (Rose (E.faults diag.old) (E.faults diag.new)
         × ((stop : Stop) × IsReason ⊥ ⊥ (Rose (R.faults input.old) (R.faults input.new)) (R.tells input.old) (R.left input.old) (R.left input.new) stop

@@ -1,10 +1,11 @@
 ghost use Rattle.std.specs.Prelude.{◌≡◌, ◌≢◌, ℕ, List, ◌≤◌, ◌⊎◌, [], ◌∷◌, length, map, option_map, slice_get, IsTrue, IfOk, IfErr, ⊤};
 ghost use Rattle.ecp_command.specs.Accepted.{Content, view, IsAccepted, MayRefuse};
 ghost use Rattle.ecp_command.specs.Calls.{SessionCalls};
+ghost use Rattle.ecp_command.specs.declared.commands.Command.{Command};
 ghost use Rattle.ecp_command.specs.declared.refusal.Refusal.{Refusal};
 ghost use Rattle.ecp_history.specs.Changes.{IsInRange};
 ghost use Rattle.ecp_store.specs.Faults.{Rose};
-ghost use Rattle.ecp_service.specs.Answers.{IsRunOf};
+ghost use Rattle.ecp_service.specs.Answers.{AnswersSource};
 ghost use Rattle.ecp_service.specs.Asked.{shape_of as shape_in};
 ghost use Rattle.ecp_service.specs.PlainRun.{read_bytes, served_history, IsServed};
 ghost use Rattle.ecp_service.specs.PlainText.{plain_text};
@@ -72,7 +73,7 @@ fn serve(alloc: Global, mut input: Input) -> Result<Ran, NoMemory>
 
 /// The run that the input asks for.
 fn run_input<R: Source>(alloc: Global, input: &mut R) -> Result<Ran, Stop>
-    ensures run { IsTrue (R.tells input.old) → IfOk result (λ ran. IsRunOf (R.left input.old) (plain_text ran.session ran.run.journal.lines ran.run.blocks.items)) }
+    ensures run { IfOk result (λ ran. AnswersSource Command.Run (R.tells input.old) (R.left input.old) (plain_text ran.session ran.run.journal.lines ran.run.blocks.items)) }
     ensures whole { IsTrue (R.tells input.old) → IfOk result (λ _. R.left input.new ≡ []) }
     ensures paired { IfOk result (λ ran. length ran.run.blocks.items ≡ length ran.run.journal.lines) }
     ensures buffer { IfOk result (λ ran. ran.buffer ≡ []) }
@@ -103,7 +104,7 @@ pub(crate) fn run<R: Source, W: Sink, E: Sink>(
     diag: &mut E,
 ) -> u8
     // Done: the input was read to its end, and the text of its run is written.
-    ensures done { result ≡ DONE → IsTrue (R.tells input.old) → (text : List ℕ) × IsRunOf (R.left input.old) text
+    ensures done { result ≡ DONE → (text : List ℕ) × AnswersSource Command.Run (R.tells input.old) (R.left input.old) text
         × GotAll (W.tells out.old) (W.appended out.old) (W.appended out.new) (W.flushed out.new) text }
     ensures read_whole { result ≡ DONE → IsTrue (R.tells input.old) → R.left input.new ≡ [] }
     ensures quiet { result ≡ DONE → GotNothing (E.tells diag.old) (E.appended diag.old) (E.appended diag.new) }
@@ -117,7 +118,8 @@ pub(crate) fn run<R: Source, W: Sink, E: Sink>(
     // A write fault cut the text short, or the line of such a reason.
     ensures cut_short { result ≡ WRITE_FAULT →
         (Rose (W.faults out.old) (W.faults out.new)
-        × (IsTrue (R.tells input.old) → (text : List ℕ) × IsRunOf (R.left input.old) text × GotPart (W.tells out.old) (W.appended out.old) (W.appended out.new) text)
+        × ((text : List ℕ) × AnswersSource Command.Run (R.tells input.old) (R.left input.old) text
+        × GotPart (W.tells out.old) (W.appended out.old) (W.appended out.new) text)
         × GotNothing (E.tells diag.old) (E.appended diag.old) (E.appended diag.new))
         ⊎ (Rose (E.faults diag.old) (E.faults diag.new)
         × ((stop : Stop) × IsReason ⊥ ⊤ (Rose (R.faults input.old) (R.faults input.new)) (R.tells input.old) (R.left input.old) (R.left input.new) stop

@@ -1,4 +1,5 @@
-use Rattle.std.proofs.Common.{inr, ◌∙◌}
+use Rattle.std.proofs.Common.{ℕ, List, inr, sym, ◌∙◌, subst}
+use Rattle.ecp_command.specs.Accepted.{MayRefuse}
 use Rattle.ecp_command.proofs.Unique.{not_refused}
 use Rattle.ecp_service.specs.Stops.{code_of, refusal_code}
 use Rattle.ecp_service.proofs.Asked.{left_of_two}
@@ -7,8 +8,8 @@ use Rattle.ecp_service.proofs.running.run.Goals as goal
 
 pub returns-in-Ok-clause-refused : goal.returns-in-Ok-clause-refused
 returns-in-Ok-clause-refused g c told short sound refusal some may =
-    let run = c.in-Ok.ensures.run told in
-    absurd (not_refused (g.R.Source.left c.args.input.now) run.content refusal some run.accepted may)
+    let run = c.in-Ok.ensures.run in
+    absurd (not_refused run.bytes run.answer.content refusal some run.answer.accepted (subst (λ (bytes : List ℕ). MayRefuse bytes refusal) (sym (run.given told)) may))
 
 pub returns-in-Err-clause-refused : goal.returns-in-Err-clause-refused
 returns-in-Err-clause-refused g c told short sound refusal some may =

@@ -1,16 +1,18 @@
 use Rattle.std.proofs.Common.{◌∙◌}
 use Rattle.ecp_command.specs.Accepted.{view}
 use Rattle.ecp_service.proofs.PlainInputs.{accepted_one}
-use Rattle.ecp_service.proofs.Runs.{in_range, run_of_read}
+use Rattle.ecp_service.proofs.Runs.{in_range, run_of}
 use Rattle.ecp_service.proofs.running.run_input.Goals as goal
 
 pub serve-requires-clause-served : goal.serve-requires-clause-served
 serve-requires-clause-served g c = accepted_one c.deref.result.now (view c.in_ok-input.input) c.in_ok-input.ensures.accepted
 
 pub returns-clause-run : goal.returns-clause-run
-returns-clause-run g c told =
+returns-clause-run g c =
     let done = c.in_ok-serve.ensures in
     let input = c.in_ok-input.input in
-    rw done.session (rw done.journal (rw done.blocks
-    (run_of_read (g.R.Source.left c.args.input.now) c.deref.result.now (view input) (c.deref.ensures.value ∙ (c.in_ok-bytes.ensures.all told).0) c.in_ok-input.ensures.accepted
-    (in_range input.head c.in_ok-input.ensures.in_range))))
+    record {
+      bytes = c.deref.result.now;
+      given = λ told. c.deref.ensures.value ∙ (c.in_ok-bytes.ensures.all told).0;
+      answer = rw done.session (rw done.journal (rw done.blocks (run_of c.deref.result.now (view input) c.in_ok-input.ensures.accepted (in_range input.head c.in_ok-input.ensures.in_range))));
+    }
