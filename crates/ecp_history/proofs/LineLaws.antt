@@ -1,15 +1,15 @@
 -- Different journal lines have different texts.
-use Rattle.std.proofs.Common.{◌≡◌, ℕ, ◌+◌, ◌-◌, ◌%◌, ◌^◌, ◌<◌, ◌≤◌, ◌==◌, Bool, true, false, cond, List, [], ◌∷◌, ◌++◌, map, refl, sym, ◌∙◌, ap, arith}
+use Rattle.std.proofs.Common.{◌≡◌, ℕ, ◌+◌, ◌-◌, ◌%◌, ◌^◌, ◌<◌, ◌≤◌, ◌==◌, Bool, true, false, cond, List, [], ◌∷◌, ◌++◌, map, refl, sym, ◌∙◌, ap, arith, le_refl}
 use Rattle.std.specs.Prelude.{codes, decimal, nat_lt, slice_index, slice_index_or, drop, All}
 use Rattle.std.specs.List.{list_any, list_all, join_with_byte, AllByRecursion}
-use Rattle.std.proofs.lemmas.Bool.{or_parts, false≢true}
+use Rattle.std.proofs.lemmas.Bool.{and_parts, or_parts, or_from, ne_eqb, ltb-true, false≢true}
 use Rattle.std.proofs.lemmas.Bool.Decides.{nat_tests}
 use Rattle.std.proofs.lemmas.Fmt.{decimal_by_steps, decimal_injective}
 use Rattle.std.proofs.lemmas.List.{append_cancel_right}
-use Rattle.std.proofs.lemmas.List.Folds.{list_any-append, list_all-append}
+use Rattle.std.proofs.lemmas.List.Folds.{list_all-append}
 use Rattle.std.proofs.lemmas.List.Elements.{recursion_from_All}
 use Rattle.ecp_history.specs.declared.act.Act.{Act}
-use Rattle.ecp_history.specs.declared.act.Act.TheVariants.{Stored, NameTaken, TooFewNodes, StoreFailed, Data, NoSuchFile, NoSuchBlock, Unrecoverable, Unsteady, Opened, Whole, Broken, Lost, NoSuchNode, NodeDown, Joined, NodeUp, Listed, NoNode, TargetDown, Restored, AlreadyLive, Clash, Gone, MendFailed, MendUnsteady, MendDown, Rebuilt, Stat, Drop}
+use Rattle.ecp_history.specs.declared.act.Act.TheVariants.{Stored}
 use Rattle.ecp_history.specs.declared.line.Line.{Line}
 use Rattle.ecp_history.specs.declared.part.Part.{Part}
 use Rattle.ecp_history.specs.declared.part.Part.TheVariants as part
@@ -24,6 +24,20 @@ use Rattle.ecp_history.proofs.ItemLaws.{line_with}
 abbrev pub rest_of : List (List ℕ) → List (List ℕ)
 rest_of [] = []
 rest_of (word ∷ words) = words
+
+-- each byte of the word is above the space
+abbrev pub IsGraphic : List ℕ → Type 0
+IsGraphic word = list_all (λ c. nat_lt 32 c) word ≡ true
+
+-- so none of them is a space or a byte below
+pub graphic-no_byte : (b : ℕ) (word : List ℕ) → b ≤ 32 → IsGraphic word → list_any (λ c. c == b) word ≡ false
+graphic-no_byte b [] low graphic = refl
+graphic-no_byte b (c ∷ word) low graphic =
+    let parts : (nat_lt 32 c ≡ true) × IsGraphic word = and_parts (nat_lt 32 c) (list_all (λ x. nat_lt 32 x) word) graphic in
+    or_from (c == b) (list_any (λ x. x == b) word) (ne_eqb c b (differs (ltb-true 32 c parts.0))) (graphic-no_byte b word low parts.1)
+  where
+    differs : 32 < c → c ≡ b → ⊥
+    differs above is = omega (arith, low, above, is)
 
 -- the word has no space
 abbrev pub NoSpace : List ℕ → Type 0
@@ -51,17 +65,17 @@ split-last (c ∷ word) none =
     let parts : (c == 32 ≡ false) × NoSpace word = or_parts (c == 32) (list_any (λ x. x == 32) word) none in
     rw parts.0 (ap (onto c) (split-last word parts.1))
 
-split-join : (word : List ℕ) (words : List (List ℕ)) → AllByRecursion NoSpace (word ∷ words) → split (join_with_byte 32 (word ∷ words)) ≡ word ∷ words
-split-join word [] none = split-last word none.0
-split-join word (next ∷ words) none =
-    split-word word (join_with_byte 32 (next ∷ words)) none.0 ∙ ap (λ (ws : List (List ℕ)). word ∷ ws) (split-join next words none.1)
+split-join : (word : List ℕ) (words : List (List ℕ)) → AllByRecursion IsGraphic (word ∷ words) → split (join_with_byte 32 (word ∷ words)) ≡ word ∷ words
+split-join word [] graphic = split-last word (graphic-no_byte 32 word (le_refl 32) graphic.0)
+split-join word (next ∷ words) graphic =
+    split-word word (join_with_byte 32 (next ∷ words)) (graphic-no_byte 32 word (le_refl 32) graphic.0) ∙ ap (λ (ws : List (List ℕ)). word ∷ ws) (split-join next words graphic.1)
 
 -- ---- numbers and words
 
-decimal-no_space : (n : ℕ) → n < 2 ^ 64 → NoSpace (decimal n)
-decimal-no_space n small = decimal_by_steps (λ n ds. NoSpace ds)
+pub decimal-graphic : (n : ℕ) → n < 2 ^ 64 → IsGraphic (decimal n)
+decimal-graphic n small = decimal_by_steps (λ n ds. IsGraphic ds)
     (λ n h. grind (arith, nat_tests))
-    (λ n ds h none. list_any-append (λ c. c == 32) ds ((48 + n % 10) ∷ []) ∙ rw none (grind (arith, nat_tests)))
+    (λ n ds h all. list_all-append (λ c. nat_lt 32 c) ds ((48 + n % 10) ∷ []) ∙ rw all (grind (arith, nat_tests)))
     n small
 
 -- the word is of digits
@@ -79,48 +93,20 @@ decimal-digits n small = decimal_by_steps (λ n ds. OfDigits ds)
       digit : (d : ℕ) → d < 10 → OfDigits ((48 + d) ∷ [])
       digit d h = grind (arith, nat_tests)
 
-act_word-no_space : (a : Act) → NoSpace (act_word a)
-act_word-no_space (Stored first stripes up) = refl
-act_word-no_space NameTaken = refl
-act_word-no_space (TooFewNodes up) = refl
-act_word-no_space (StoreFailed node) = refl
-act_word-no_space Data = refl
-act_word-no_space NoSuchFile = refl
-act_word-no_space (NoSuchBlock count) = refl
-act_word-no_space (Unrecoverable live) = refl
-act_word-no_space (Unsteady at) = refl
-act_word-no_space (Opened len count first) = refl
-act_word-no_space Whole = refl
-act_word-no_space (Broken index) = refl
-act_word-no_space (Lost count) = refl
-act_word-no_space NoSuchNode = refl
-act_word-no_space NodeDown = refl
-act_word-no_space (Joined inc) = refl
-act_word-no_space NodeUp = refl
-act_word-no_space (Listed count) = refl
-act_word-no_space (NoNode node) = refl
-act_word-no_space (TargetDown node) = refl
-act_word-no_space (Restored stripe row node inc) = refl
-act_word-no_space (AlreadyLive stripe row) = refl
-act_word-no_space (Clash stripe row other) = refl
-act_word-no_space (Gone stripe row live) = refl
-act_word-no_space (MendFailed stripe row node) = refl
-act_word-no_space (MendUnsteady stripe row at) = refl
-act_word-no_space (MendDown stripe row node) = refl
-act_word-no_space (Rebuilt restored live clash gone failed unsteady down) = refl
-act_word-no_space (Stat len count live) = refl
-act_word-no_space (Drop stripe row) = refl
+act_word-graphic : (a : Act) → IsGraphic (act_word a)
+act_word-graphic (Stored first stripes up) = refl
+act_word-graphic _ = refl
 
 -- numbers that fit 32 bits
 abbrev pub Small : List ℕ → Type 0
 Small ns = AllByRecursion (λ n. n < 2 ^ 32) ns
 
-wide : (n : ℕ) → n < 2 ^ 32 → n < 2 ^ 64
+pub wide : (n : ℕ) → n < 2 ^ 32 → n < 2 ^ 64
 wide n h = omega arith
 
-decimals-no_space : (ns : List ℕ) → Small ns → AllByRecursion NoSpace (map decimal ns)
-decimals-no_space [] small = tt
-decimals-no_space (n ∷ ns) small = (decimal-no_space n (wide n small.0), decimals-no_space ns small.1)
+pub decimals-graphic : (ns : List ℕ) → Small ns → AllByRecursion IsGraphic (map decimal ns)
+decimals-graphic [] small = tt
+decimals-graphic (n ∷ ns) small = (decimal-graphic n (wide n small.0), decimals-graphic ns small.1)
 
 decimals-injective : (ms ns : List ℕ) → Small ms → Small ns → map decimal ms ≡ map decimal ns → ms ≡ ns
 decimals-injective [] [] a b same = refl
@@ -131,15 +117,15 @@ decimals-injective (m ∷ ms) (n ∷ ns) a b same =
     let rest : ms ≡ ns = decimals-injective ms ns a.1 b.1 (ap rest_of same) in
     ap (λ (x : ℕ). x ∷ ms) first ∙ ap (λ (xs : List ℕ). n ∷ xs) rest
 
-caller_word-no_space : (c : ℕ) → c < 2 ^ 32 → NoSpace (caller_word c)
-caller_word-no_space c small = either (nat_lt c 8) where
-  either : (b : Bool) → NoSpace (cond b (codes "s" ++ decimal c) (codes "n" ++ decimal (c - 8)))
-  either true = decimal-no_space c (omega arith)
-  either false = decimal-no_space (c - 8) (omega arith)
+caller_word-graphic : (c : ℕ) → c < 2 ^ 32 → IsGraphic (caller_word c)
+caller_word-graphic c small = either (nat_lt c 8) where
+  either : (b : Bool) → IsGraphic (cond b (codes "s" ++ decimal c) (codes "n" ++ decimal (c - 8)))
+  either true = decimal-graphic c (omega arith)
+  either false = decimal-graphic (c - 8) (omega arith)
 
-part_word-no_space : (p : Part) → Small (part_numbers p) → NoSpace (part_word p)
-part_word-no_space (part.Part j) small = decimal-no_space j (wide j small.0)
-part_word-no_space part.End small = refl
+part_word-graphic : (p : Part) → Small (part_numbers p) → IsGraphic (part_word p)
+part_word-graphic (part.Part j) small = decimal-graphic j (wide j small.0)
+part_word-graphic part.End small = refl
 
 -- ---- what each word tells
 
@@ -174,25 +160,25 @@ act_words-injective a b small_a small_b same =
 -- ---- whole lines
 
 -- what is small in two lists is small in each
-small_parts : (ms ns : List ℕ) → Small (ms ++ ns) → Small ms × Small ns
+pub small_parts : (ms ns : List ℕ) → Small (ms ++ ns) → Small ms × Small ns
 small_parts [] ns small = (tt, small)
 small_parts (m ∷ ms) ns small = let parts = small_parts ms ns small.1 in ((small.0, parts.0), parts.1)
 
-line_words-no_space : (at : ℕ) (a : Line) → at < 2 ^ 32 → Small (line_numbers a) → AllByRecursion NoSpace (line_words at a)
-line_words-no_space at a small_at small =
+pub line_words-graphic : (at : ℕ) (a : Line) → at < 2 ^ 32 → Small (line_numbers a) → AllByRecursion IsGraphic (line_words at a)
+line_words-graphic at a small_at small =
     let parts = small_parts (part_numbers a.part) (act_numbers a.act) small.1.1.1 in (
-      decimal-no_space at (wide at small_at),
+      decimal-graphic at (wide at small_at),
       (
-        caller_word-no_space a.caller small.0,
+        caller_word-graphic a.caller small.0,
         (
-          decimal-no_space a.call (wide a.call small.1.0),
+          decimal-graphic a.call (wide a.call small.1.0),
           (
-            part_word-no_space a.part parts.0,
+            part_word-graphic a.part parts.0,
             (
-              decimal-no_space a.point (wide a.point small.1.1.0),
+              decimal-graphic a.point (wide a.point small.1.1.0),
               (
-                act_word-no_space a.act,
-                decimals-no_space (act_numbers a.act) parts.1,
+                act_word-graphic a.act,
+                decimals-graphic (act_numbers a.act) parts.1,
               ),
             ),
           ),
@@ -225,6 +211,6 @@ journal_line-injective at a b small_at all_a all_b same =
     let joined : join_with_byte 32 (line_words at a) ≡ join_with_byte 32 (line_words at b) =
     append_cancel_right (join_with_byte 32 (line_words at a)) (join_with_byte 32 (line_words at b)) (10 ∷ []) same in
     line_words-injective at a b small_a small_b
-    (sym (split-join (decimal at) (rest_of (line_words at a)) (line_words-no_space at a small_at small_a))
+    (sym (split-join (decimal at) (rest_of (line_words at a)) (line_words-graphic at a small_at small_a))
     ∙ ap split joined
-    ∙ split-join (decimal at) (rest_of (line_words at b)) (line_words-no_space at b small_at small_b))
+    ∙ split-join (decimal at) (rest_of (line_words at b)) (line_words-graphic at b small_at small_b))

@@ -17,3 +17,6 @@ mod ReplyLines
 pub mod PlainCalls
 pub mod PlainSteps
 pub mod PlainTexts
+pub mod PlainPrinted
+pub mod TextLines
+pub mod OneJournal

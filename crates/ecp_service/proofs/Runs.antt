@@ -15,10 +15,12 @@ use Rattle.ecp_service.specs.Asked.{shape_of}
 use Rattle.ecp_service.specs.Past.{past}
 use Rattle.ecp_service.specs.PlainRun.{plain_history, read_bytes, served_history, IsServed}
 use Rattle.ecp_service.specs.PlainText.{plain_text}
+use Rattle.ecp_service.specs.Printed.{ArePrintable}
 use Rattle.ecp_service.specs.RunText.{run_text}
 use Rattle.ecp_service.proofs.PlainInputs.{accepted_one}
 use Rattle.ecp_service.proofs.PlainLegal.{plain_legal, plain_faultless}
 use Rattle.ecp_service.proofs.PlainPast.{plain_past, past_none}
+use Rattle.ecp_service.proofs.PlainPrinted.{plain_printable, none_printable}
 use Rattle.ecp_service.proofs.PlainServes.{plain_serves, none_serves}
 use Rattle.ecp_service.proofs.PlainTexts.{plain_run_text, no_run_text}
 
@@ -38,13 +40,14 @@ abbrev text_of : Content → Option ℕ → List Entry → List ℕ
 text_of content number history = plain_text number (map (λ e. e.line) history) (map read_bytes history)
 
 -- a history that serves the input, with its own lines as the journal
-of_history : (input : List ℕ) (content : Content) (history : List Entry) (text : List ℕ) → IsAccepted input content
+of_history : (input : List ℕ) (content : Content) (history : List Entry) (text : List ℕ) → IsAccepted input content → ArePrintable (map (λ e. e.line) history)
     → past (shape_of content.head) content (map (λ e. e.line) history) ≡ history → IsHistoryOf (shape_of content.head) content history
     → run_text content history ≡ text → IsRunOf input text
-of_history input content history text accepted is served written = record {
+of_history input content history text accepted printable is served written = record {
   content = content;
   accepted = accepted;
   journal = map (λ e. e.line) history;
+  printable = printable;
   written = sym written ∙ ap (run_text content) (sym is);
   history = subst (IsHistoryOf (shape_of content.head) content) (sym is) served;
 }
@@ -52,7 +55,7 @@ of_history input content history text accepted is served written = record {
 -- an input of no call
 of_none : (input : List ℕ) (content : Content) → IsAccepted input content → content.sessions ≡ [] → IsRunOf input (plain_text None [] [])
 of_none input content accepted none =
-    of_history input content [] (plain_text None [] []) accepted (past_none (shape_of content.head) content)
+    of_history input content [] (plain_text None [] []) accepted none_printable (past_none (shape_of content.head) content)
     (record { legal = λ i e here. absurd (none-some e here); serves = none_serves (shape_of content.head) content none; faultless = refl })
     (no_run_text content none)
 
@@ -61,7 +64,7 @@ of_one : (input : List ℕ) (content : Content) (s : SessionCalls) → IsAccepte
     → IsRunOf input (text_of content (Some s.number) (plain_history (shape_of content.head) s.number s.calls))
 of_one input content s accepted range one served =
     let shape : Shape = shape_of content.head in
-    of_history input content (plain_history shape s.number s.calls) (text_of content (Some s.number) (plain_history shape s.number s.calls)) accepted
+    of_history input content (plain_history shape s.number s.calls) (text_of content (Some s.number) (plain_history shape s.number s.calls)) accepted (plain_printable shape s range served)
     (plain_past shape content s.number s.calls one served.plain)
     (record {
       legal = plain_legal shape s.number s.calls range.data_rows range.some (below shape range) served.session served.plain;

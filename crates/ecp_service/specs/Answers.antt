@@ -14,6 +14,7 @@ use Rattle.ecp_history.specs.Legal.{IsLegal}
 use Rattle.ecp_service.specs.Asked.{shape_of}
 use Rattle.ecp_service.specs.Faults.{spends_fault}
 use Rattle.ecp_service.specs.Past.{past}
+use Rattle.ecp_service.specs.Printed.{ArePrintable}
 use Rattle.ecp_service.specs.RunText.{run_text}
 use Rattle.ecp_service.specs.Serves.{Serves}
 
@@ -32,6 +33,7 @@ pub record IsRunOf (bytes text : List ℕ) : Type 0 where
   pub content : Content
   pub accepted : IsAccepted bytes content
   pub journal : List Line
+  pub printable : ArePrintable journal
   pub written : text ≡ run_text content (past (shape_of content.head) content journal)
   pub history : IsHistoryOf (shape_of content.head) content (past (shape_of content.head) content journal)
 

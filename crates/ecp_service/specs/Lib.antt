@@ -4,6 +4,7 @@ pub mod Faults
 pub mod Past
 pub mod PlainRun
 pub mod PlainText
+pub mod Printed
 pub mod RunText
 pub mod Serves
 pub mod Settled

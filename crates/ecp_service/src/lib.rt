@@ -13,6 +13,7 @@ mod answer;
 mod buffer;
 mod command_line;
 mod journal_lines;
+pub mod laws;
 mod mending;
 mod plain_call;
 mod plain_run;
