@@ -71,7 +71,7 @@ fn serve(alloc: Global, mut input: Input) -> Result<Ran, NoMemory>
     }
 }
 
-/// The run that the input asks for.
+/// The run that the input asks for. Its bytes are let go before the first call is served.
 fn run_input<R: Source>(alloc: Global, input: &mut R) -> Result<Ran, Stop>
     ensures run { IfOk result (λ ran. AnswersSource Command.Run (R.tells input.old) (R.left input.old) (plain_text ran.session ran.run.journal.lines ran.run.blocks.items)) }
     ensures whole { IsTrue (R.tells input.old) → IfOk result (λ _. R.left input.new ≡ []) }
@@ -80,8 +80,10 @@ fn run_input<R: Source>(alloc: Global, input: &mut R) -> Result<Ran, Stop>
     ensures err { IfErr result (IsReason ⊥ ⊤ (Rose (R.faults input.old) (R.faults input.new)) (R.tells input.old) (R.left input.old) (R.left input.new)) }
     ensures too_long { IsTrue (R.tells input.old) → GaveTooMuch (R.left input.old) (R.left input.new) → result ≡ Err stop.TooLong }
 {
-    let bytes = read_to_end(alloc, input)?;
-    let input = read_input(alloc, &bytes)?;
+    let input = {
+        let bytes = read_to_end(alloc, input)?;
+        read_input(alloc, &bytes)?
+    };
     Ok(serve(alloc, input)?)
 }
 
