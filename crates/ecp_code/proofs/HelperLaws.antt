@@ -52,9 +52,6 @@ others_distinct k t = others_from t 0 k
 pub other_most : (t i : ℕ) → other t i ≤ i + 1
 other_most t i = elim (nat_lt i t) as (λ b. cond b i (i + 1) ≤ i + 1) [ true ↦ omega arith | false ↦ omega arith ]
 
-pub other_least : (t i : ℕ) → i < t → other t i ≡ i
-other_least t i h = let p : nat_lt i t ≡ true = grind (arith, nat_tests) in rw p refl
-
 -- ---- the bytes of a helper
 
 pub drop_least : (xs : List ℕ) (m : ℕ) → drop (min (length xs) m) xs ≡ drop m xs

@@ -1,6 +1,5 @@
 -- Laws of the numbers of bytes and stripes.
-use Rattle.std.proofs.Common.{◌≡◌, ℕ, zero, suc, ◌+◌, ◌-◌, ◌*◌, ◌/◌, ◌%◌, ◌<◌, ◌≤◌, List, [], length, drop, Some, slice_get, min, add-zero, ap, sym, ◌∙◌, arith}
-use Rattle.std.proofs.Math.Nat.{div-mul-le_self}
+use Rattle.std.proofs.Common.{◌≡◌, ℕ, zero, suc, ◌+◌, ◌-◌, ◌*◌, ◌/◌, ◌%◌, ◌<◌, List, [], length, drop, Some, slice_get, min, add-zero, ap, sym, ◌∙◌, arith}
 use Rattle.std.proofs.lemmas.Nat.{div-mul-add, div-add-mod', mod_below}
 use Rattle.std.proofs.lemmas.List.FromFn.{length-map-range_with_len, get_or-map-range_with_len}
 use Rattle.std.proofs.lemmas.Option.{slice_get-get_or}
@@ -23,20 +22,6 @@ rounded_up a b pos =
         let e : a + b - 1 ≡ (q + 1) * b + r = omega arith in
         let one : min 1 (suc r) ≡ 1 = omega arith in
         ap (λ n. q + n) one ∙ sym (ap (λ n. n / b) e ∙ div-mul-add (q + 1) b r (omega arith))
-
--- a stripe begins within the bytes
-pub begins_within : (k len size i : ℕ) → 0 < k * len → i < stripe_count k len size → i * (k * len) < size
-begins_within k len size i pos h =
-    let below : (size + k * len - 1) / (k * len) * (k * len) ≤ size + k * len - 1 = div-mul-le_self (size + k * len - 1) (k * len) in
-    let more : (i + 1) * (k * len) ≤ (size + k * len - 1) / (k * len) * (k * len) = times (k * len) (i + 1) ((size + k * len - 1) / (k * len)) (omega arith) in
-    let split : (i + 1) * (k * len) ≡ i * (k * len) + k * len = one_more i (k * len) in
-    omega arith
-  where
-    times : (n a b : ℕ) → a ≤ b → a * n ≤ b * n
-    times n a b h = grind arith
-
-    one_more : (i n : ℕ) → (i + 1) * n ≡ i * n + n
-    one_more i n = omega arith
 
 pub slice_get-stripes : (k len : ℕ) (bytes : List ℕ) (i : ℕ) → i < stripe_count k len (length bytes) → slice_get (stripes k len bytes) i ≡ Some (blocks k len (drop (i * (k * len)) bytes))
 slice_get-stripes k len bytes i h =

@@ -1,5 +1,5 @@
 -- An input from its parts.
-use Rattle.std.proofs.Common.{ℕ, List, Ok, refl, inl, inr}
+use Rattle.std.proofs.Common.{ℕ, List, Ok, refl, inr}
 use Rattle.ecp_command.specs.declared.head.Head.{Head}
 use Rattle.ecp_command.specs.declared.refusal.Refusal.{Refusal}
 use Rattle.ecp_command.specs.declared.refusal.Refusal.TheVariants.{NotToml, NoRule, Key, UnknownKey, Line, NoMemory}
@@ -7,7 +7,7 @@ use Rattle.ecp_command.specs.declared.script.Script.{Script}
 use Rattle.ecp_command.specs.Accepted.{HasHead, RefusesLine, MayRefuse}
 use Rattle.ecp_command.specs.Costs.{IsOver}
 use Rattle.ecp_command.specs.Lines.{Parts, ArePartsOf}
-use Rattle.ecp_command.specs.Script.{HasRead, MayRefuseForm}
+use Rattle.ecp_command.specs.Script.{HasRead}
 use Rattle.ecp_command.specs.Settings.{MayRefuseHead, GivesHead}
 use Rattle.ecp_command.proofs.Spending.{costs_refuse}
 
@@ -22,15 +22,6 @@ head_refuses input parts (Key s) split h = record { script = parts.script; head 
 head_refuses input parts UnknownKey split h = record { script = parts.script; head = record { parts = parts; split = split; script_is = refl; top = h.0; document = h.1; head_is = h.2 } }
 head_refuses input parts (Line n) split h = absurd h
 head_refuses input parts NoMemory split h = tt
-
--- what refuses a line in the first pass refuses the input
-pub form_refuses : (input : List ℕ) (parts : Parts) (head : Head) (e : Refusal) → ArePartsOf input parts → GivesHead parts.head head → MayRefuseForm head parts.script e → MayRefuse input e
-form_refuses input parts head NotToml split gives h = absurd h
-form_refuses input parts head NoRule split gives h = absurd h
-form_refuses input parts head (Key s) split gives h = absurd h
-form_refuses input parts head UnknownKey split gives h = absurd h
-form_refuses input parts head (Line n) split gives h = record { script = parts.script; settings = head; head = has_head input parts head split gives; refused = inl h }
-form_refuses input parts head NoMemory split gives h = tt
 
 -- and so does the second
 pub cost_refuses : (input : List ℕ) (parts : Parts) (head : Head) (script : Script) (n : ℕ) → ArePartsOf input parts → GivesHead parts.head head → HasRead head parts.script script → IsOver script.forms.items n → RefusesLine input n

@@ -1,5 +1,5 @@
 -- What a line that spells a form looks like, word by word.
-use Rattle.std.proofs.Common.{◌≡◌, ◌≢◌, ℕ, ◌<◌, ◌^◌, ◌==◌, get_or, true, false, not, List, [], ◌∷◌, ◌++◌, Option, decimal, refl, sym, ap, subst, ◌∙◌, append_assoc}
+use Rattle.std.proofs.Common.{◌≡◌, ◌≢◌, ℕ, ◌<◌, ◌^◌, ◌==◌, get_or, true, false, not, List, [], ◌∷◌, ◌++◌, decimal, refl, sym, ap, subst, ◌∙◌, append_assoc}
 use Rattle.std.specs.Prelude.{codes}
 use Rattle.std.specs.List.{AllByRecursion, list_all}
 use Rattle.std.proofs.lemmas.Bool.{false≢true, eqb-false, and_parts}
@@ -9,7 +9,7 @@ use Rattle.ecp_command.specs.declared.call.Call.TheVariants.{Put, Read, Sum, Cat
 use Rattle.ecp_command.specs.declared.form.Form.{Form}
 use Rattle.ecp_command.specs.declared.form.Form.TheVariants as form
 use Rattle.ecp_command.specs.Cuts.{IsClear, IsCut}
-use Rattle.ecp_command.specs.Forms.{is_name_byte, IsName, IsHex, Spells, IsFormOf}
+use Rattle.ecp_command.specs.Forms.{is_name_byte, IsName, IsHex, Spells}
 
 -- a text is cut in one way
 pub same_cut : (b : ℕ) (f g r s : List ℕ) → IsClear b f → IsClear b g → f ++ b ∷ r ≡ g ++ b ∷ s → (f ≡ g) × (r ≡ s)
@@ -145,10 +145,6 @@ no_word line word rest c s p r l (form.Call (Cat name)) h = h
 no_word line word rest c s p r l (form.Call (Join node)) h = h
 no_word line word rest c s p r l (form.Call (Rebuild from to)) h = h
 no_word line word rest c s p r l (form.Call (Stat name)) h = h
-
--- a word and what stands behind it
-pub with_word : (line word rest w : List ℕ) (found : Option Form) → IsCut 32 line word rest → word ≡ w → IsFormOf (w ++ 32 ∷ rest) found → IsFormOf line found
-with_word line word rest w found c e h = subst (λ (l : List ℕ). IsFormOf l found) (sym (c.whole ∙ ap (λ (x : List ℕ). x ++ 32 ∷ rest) e)) h
 
 -- ---- the parts of a put and of a read, where the rest of the line is cut
 

@@ -1,18 +1,9 @@
-use Rattle.std.proofs.Common.{◌≡◌, ℕ, List, ◌⊎◌, inl, inr, refl}
+use Rattle.std.proofs.Common.{ℕ, List, ◌⊎◌, inl, inr}
 use Rattle.ecp_command.specs.Accepted.{Content, IsAccepted}
 use Rattle.ecp_command.specs.Words.{IsSpelled}
 use Rattle.ecp_command.specs.declared.commands.Command.{Command}
 use Rattle.ecp_command.specs.declared.commands.Command.TheVariants.{Run, RunDir, Mend, Check, Soak}
 use Rattle.ecp_service.specs.Answers.{Asks, Takes}
-
--- words that spell neither a row to rebuild nor a run ask for nothing that is served
-pub not_asked : (words : List (List ℕ)) (c : Command) → IsSpelled words c → ((k n t : ℕ) → c ≡ Mend k n t → ⊥) → (c ≡ Run → ⊥)
-    → (asked : Command) → Asks words asked → ⊥
-not_asked words (Mend k n t) spelled no_mend no_run asked asks = no_mend k n t refl
-not_asked words Run spelled no_mend no_run asked asks = no_run refl
-not_asked words (RunDir path) spelled no_mend no_run asked asks = spelled
-not_asked words Check spelled no_mend no_run asked asks = spelled
-not_asked words (Soak seed) spelled no_mend no_run asked asks = spelled
 
 -- what is asked for is spelled
 pub spelled_asked : (words : List (List ℕ)) (asked : Command) → Asks words asked → IsSpelled words asked

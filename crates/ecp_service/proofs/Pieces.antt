@@ -1,6 +1,6 @@
-use Rattle.std.proofs.Common.{◌≡◌, ℕ, ◌+◌, ◌-◌, ◌≤◌, List, ◌++◌, length, take, drop, sym, ◌∙◌, ap, append_assoc, subst, arith, length-drop, Result, Ok, Err, IfOk}
-use Rattle.std.proofs.Math.Seq.{take-append-add, take-add}
-use Rattle.std.proofs.lemmas.List.{take-append-le, take_all}
+use Rattle.std.proofs.Common.{◌≡◌, ℕ, ◌+◌, ◌≤◌, List, ◌++◌, length, take, sym, ◌∙◌, ap, append_assoc, subst, Result, Ok, Err, IfOk}
+use Rattle.std.proofs.Math.Seq.{take-append-add}
+use Rattle.std.proofs.lemmas.List.{take-append-le}
 
 -- the front of what follows a list of this length
 pub take_behind : (n m : ℕ) (xs ys : List ℕ) → length xs ≡ n → take (n + m) (xs ++ ys) ≡ xs ++ take m ys
@@ -20,13 +20,3 @@ pub gathered_where_ok : {E : Type 0} (r : Result ℕ E) (n : ℕ) (front piece b
     → IfOk r (λ m. take (n + m) (front ++ (piece ++ behind)) ++ after ≡ front ++ before)
 gathered_where_ok (Ok m) n front piece behind before after long within came = gathered n m front piece behind before after long within came
 gathered_where_ok (Err e) n front piece behind before after long within came = tt
-
--- what was appended, after a piece more of the rest of the text
-pub appended_more : (n m : ℕ) (text before mid after : List ℕ) → mid ≡ before ++ take n text → after ≡ mid ++ take m (take (length text - n) (drop n text))
-    → after ≡ before ++ take (n + m) text
-appended_more n m text before mid after first more =
-    let short : length (drop n text) ≤ length text - n = omega (arith, length-drop {A = ℕ}) in
-    let rest : take (length text - n) (drop n text) ≡ drop n text = take_all (length text - n) (drop n text) short in
-    more ∙ ap (λ (xs : List ℕ). mid ++ take m xs) rest
-    ∙ ap (λ (xs : List ℕ). xs ++ take m (drop n text)) first ∙ append_assoc before (take n text) (take m (drop n text))
-    ∙ ap (λ (xs : List ℕ). before ++ xs) (sym (take-add n m text))

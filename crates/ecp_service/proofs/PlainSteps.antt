@@ -1,6 +1,6 @@
 -- What a run over a plain table keeps at each of its calls.
-use Rattle.std.proofs.Common.{◌≡◌, ℕ, zero, suc, ◌+◌, ◌^◌, ◌<◌, ◌≤◌, List, [], ◌∷◌, ◌++◌, length, take, get_or, All, Option, Some, IsSome, is_some, refl, sym, ◌∙◌, ap, subst, arith, le_trans}
-use Rattle.std.specs.Prelude.{slice_get, sum_by}
+use Rattle.std.proofs.Common.{◌≡◌, ℕ, zero, suc, ◌+◌, ◌^◌, ◌<◌, ◌≤◌, List, [], ◌∷◌, ◌++◌, length, take, get_or, All, refl, sym, ◌∙◌, ap, subst, arith}
+use Rattle.std.specs.Prelude.{sum_by}
 use Rattle.std.proofs.lemmas.List.{take_more}
 use Rattle.std.proofs.lemmas.List.Sums.{sum_by-cons, sum_by_push}
 use Rattle.ecp_code.specs.Stripes.{stripe_count}
@@ -9,21 +9,18 @@ use Rattle.ecp_command.specs.declared.call.Call.TheVariants.{Put, Read, Lose}
 use Rattle.ecp_command.specs.declared.planned.Planned.{Planned}
 use Rattle.ecp_history.specs.declared.act.Act.{Act}
 use Rattle.ecp_history.specs.declared.act.Act.TheVariants.{Stored, NameTaken, TooFewNodes, Data, NoSuchFile, NoSuchBlock, Unrecoverable, Lost, NoSuchNode, NodeDown}
-use Rattle.ecp_history.specs.declared.block_name.BlockName.{BlockName}
 use Rattle.ecp_history.specs.declared.entry.Entry.{Entry}
 use Rattle.ecp_history.specs.declared.shape.Shape.{Shape}
 use Rattle.ecp_history.specs.Calls.{Agrees}
 use Rattle.ecp_history.specs.Changes.{IsInRange, CanChange}
-use Rattle.ecp_history.specs.Named.{block_at}
 use Rattle.ecp_history.specs.Placement.{nodes_in}
 use Rattle.ecp_history.specs.Steps.{after, table_of}
-use Rattle.ecp_history.specs.Tables.{Stripe, PlainTable, stripe_of, up_count, up_mask}
+use Rattle.ecp_history.specs.Tables.{PlainTable, up_count, up_mask}
 use Rattle.ecp_history.proofs.StoreLaws.{count_is}
 use Rattle.ecp_service.specs.Asked.{put_stripes}
 use Rattle.ecp_service.specs.PlainRun.{next_stripe, act_of, call_entry, plain_entry, plain_history, stored_stripes, IsPlain, IsServed}
 use Rattle.ecp_service.specs.Settled.{IsSettled}
 use Rattle.ecp_service.proofs.PlainPlaces.{table_push}
-use Rattle.ecp_service.proofs.PlainTables.{got, stripe_at, block_below, block_row}
 use Rattle.ecp_service.proofs.PlainCalls.{CanCome, can_come, entry_by, come_fits, come_bytes, come_next}
 use Rattle.ecp_service.proofs.PlainLegal.{IsRun, run_in_range, each_take}
 
@@ -51,11 +48,6 @@ sum_taken f (x ∷ xs) (suc i) = more (f x) (sum_by f (take i xs)) (sum_by f xs)
 sum_with : (f : Planned → ℕ) (xs : List Planned) (i : ℕ) (d : Planned) → i < length xs → sum_by f (take i xs) + f (get_or xs i d) ≤ sum_by f xs
 sum_with f xs i d within =
     subst (λ (m : ℕ). m ≤ sum_by f xs) (ap (sum_by f) (take_more xs i d within) ∙ sum_by_push f (take i xs) (get_or xs i d)) (sum_taken f xs (i + 1))
-
--- the calls so far use few stripe numbers
-pub stripes_at : (shape : Shape) (c : ℕ) (calls : List Planned) (i : ℕ) → IsInRange shape → IsServed shape (record { number = c; calls = calls })
-    → next_stripe (table_of shape (plain_history shape c (take i calls))) ≤ 65536
-stripes_at shape c calls i in_range served = le_trans (run_at shape c calls i in_range served).budget (le_trans (sum_taken (λ p. put_stripes shape p.call) calls i) served.stripes)
 
 -- and leave room for those of the next one
 pub stripes_with : (shape : Shape) (c : ℕ) (calls : List Planned) (i : ℕ) (d : Planned) → IsInRange shape → IsServed shape (record { number = c; calls = calls }) → i < length calls
@@ -109,11 +101,3 @@ pub call_changes : (shape : Shape) (c at : ℕ) (t : PlainTable) (call : Call) �
     → CanChange shape t (call_entry shape c at t call) (call_entry shape c at t call).line.act
 call_changes shape c at t call in_range plain settled room up_nodes =
     come_changes shape c at t call (act_of shape t call) (can_come shape t call plain) settled.nodes room (up_nodes (subst (λ (m : ℕ). m ≤ 32) (sym settled.nodes) in_range.few))
-
--- the block of a file is a data row of a stripe that is there
-pub read_block : (shape : Shape) (t : PlainTable) (name : List ℕ) (j : ℕ) (b : BlockName) → IsInRange shape → IsSettled shape t → next_stripe t ≤ 65536 → block_at shape t name j ≡ Some b
-    → (b.stripe < next_stripe t) × IsSome (stripe_of t b.stripe) × (b.row < shape.k)
-read_block shape t name j b in_range settled most is =
-    let below : b.stripe < next_stripe t = block_below shape t name j b (omega (arith, in_range.data_rows)) (omega (arith, in_range.some)) settled is in
-    let stripe : (x : Stripe) × (slice_get t.stripes b.stripe ≡ Some x) = got t.stripes b.stripe (subst (λ (m : ℕ). b.stripe < m) (sym settled.counted) below) in
-    (below, ap (λ (o : Option Stripe). is_some o) (stripe_at shape t b.stripe settled ∙ stripe.1), block_row shape t name j b (omega (arith, in_range.data_rows)) is)

@@ -1,3 +1,1 @@
-pub mod FaultLaws
-pub mod PullLaws
 pub mod PushLaws

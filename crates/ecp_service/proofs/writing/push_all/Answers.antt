@@ -1,5 +1,5 @@
 use Rattle.std.proofs.Common.{◌∙◌, ℕ, arith, length-drop, subst, sym, IsTrue}
-use Rattle.ecp_service.proofs.Pieces.{appended_more}
+use Rattle.ecp_store.proofs.PushLaws.{pushed-front}
 use Rattle.ecp_service.proofs.writing.push_all.Goals as goal
 
 pub loop-pushed-preserved : goal.loop-pushed-preserved
@@ -10,5 +10,5 @@ loop-pushed-preserved g c =
       within = omega (arith, length-drop {A = ℕ}, e.within);
       tells = e.tells ∙ was.tells;
       falls = omega (arith, e.never_falls, was.falls);
-      appended = λ tells. appended_more _ _ _ _ _ _ (was.appended tells) (e.appends (subst IsTrue (sym was.tells) tells));
+      appended = λ tells. pushed-front _ _ _ _ _ _ (was.appended tells) (e.appends (subst IsTrue (sym was.tells) tells));
     }
