@@ -8,7 +8,7 @@ ghost use Rattle.ecp_code.specs.Weights.{weights};
 use crate::bad_shape::BadShape;
 use crate::chosen::{inverse_of, times_column};
 use crate::data_weights::data_weights;
-use crate::rows::{copy_of_block, sum_of_blocks};
+use crate::rows::{copy_of_row, sum_of_blocks};
 use crate::stripe::{Stripe, filled_bytes};
 use crate::weights::Weights;
 use ecp_store::{Block, NoMemory};
@@ -127,7 +127,7 @@ impl Code {
         ensures { IfOk result (λ block. block ≡ row_at (blocks self.now.k len bytes.now) row) }
     {
         if row < self.k {
-            return copy_of_block(alloc, bytes, self.k, len, row);
+            return copy_of_row(alloc, bytes, self.k, len, row);
         }
         let weights = data_weights(self.k, row);
         sum_of_blocks(alloc, &weights[..self.k as usize], bytes, len)

@@ -4,7 +4,7 @@ ghost use Rattle.ecp_code.specs.Rows.{row as row_at, other_rows, weighted_sum};
 ghost use Rattle.ecp_code.specs.Stripes.{blocks, filled, stripe_len};
 
 use crate::code::Code;
-use crate::rows::add_block;
+use crate::rows::{add_block, bytes_of_row};
 use ecp_store::{Block, NoMemory};
 use std::alloc::Global;
 
@@ -20,9 +20,7 @@ fn helper_block<'a>(bytes: &'a [u8], len: usize, parity: &'a [u8], k: u8, helper
     if helper == k {
         return parity;
     }
-    let start = len.saturating_mul(helper as usize).min(bytes.len());
-    let rest = &bytes[start..];
-    &rest[..len.min(rest.len())]
+    bytes_of_row(bytes, k, len, helper)
 }
 
 /// The sum of the helpers' rows, each times its weight, one after another.

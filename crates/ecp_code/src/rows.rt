@@ -30,11 +30,22 @@ pub(crate) fn sum_of_blocks(
     Ok(Block::new(sum))
 }
 
-/// Data row `row` of the k blocks of `len` bytes that `bytes` fill: a copy of its block. Where the bytes end, zeros
+/// The bytes of data row `row` that are there, of the k blocks of `len` bytes that `bytes` fill. Where they end, zeros
 /// follow.
+pub(crate) fn bytes_of_row(bytes: &[u8], k: u8, len: usize, row: u8) -> &[u8]
+    requires { row < k }
+    ensures short { length result.now ≤ len }
+    ensures row { filled len result.now ≡ row_at (blocks k len bytes.now) row }
+{
+    let start = len.saturating_mul(row as usize).min(bytes.len());
+    let rest = &bytes[start..];
+    &rest[..len.min(rest.len())]
+}
+
+/// A copy of data row `row` of the k blocks of `len` bytes that `bytes` fill.
 ///
 /// Takes memory once, for the result.
-pub(crate) fn copy_of_block(
+pub(crate) fn copy_of_row(
     alloc: Global,
     bytes: &[u8],
     k: u8,
@@ -44,8 +55,7 @@ pub(crate) fn copy_of_block(
     requires { row < k }
     ensures { IfOk result (λ block. block ≡ row_at (blocks k len bytes.now) row) }
 {
-    let start = len.saturating_mul(row as usize).min(bytes.len());
-    Ok(Block::new(filled_bytes(alloc, &bytes[start..], len)?))
+    Ok(Block::new(filled_bytes(alloc, bytes_of_row(bytes, k, len, row), len)?))
 }
 
 /// Adds to `sum` a block times `c`. A block that is shorter ends in zeros, which add nothing.
