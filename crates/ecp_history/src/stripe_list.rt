@@ -12,10 +12,8 @@ pub(crate) fn stripe_with(stripes: &[PlacedStripe], number: u32) -> Option<&Plac
     requires { IsRising stripes.now }
     ensures { option_copied result ≡ find (λ x. x.number == number) stripes.now }
 {
-    match index_with(stripes, number) {
-        Some(at) => Some(&stripes[at]),
-        None => None,
-    }
+    let at = index_with(stripes, number)?;
+    Some(&stripes[at])
 }
 
 /// The index of the stripe with this number, if there is one.
