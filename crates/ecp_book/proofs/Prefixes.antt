@@ -33,6 +33,10 @@ module _ {A : Type 0} where
   prefix_whole (x ∷ xs) (y ∷ ys) p le =
       let rest = prefix_whole xs ys (p.0, cc (p.1)) (omega arith) in cc (p.1, rest)
 
+  -- two lists that begin each other are equal
+  pub prefix_both : (xs ys : List A) → IsPrefix xs ys → IsPrefix ys xs → xs ≡ ys
+  prefix_both xs ys p q = prefix_whole xs ys p (prefix_length ys xs q)
+
   -- of two lists that met, the one that is no longer is a prefix of the other
   pub shorter_is_prefix : (xs ys : List A) → IsPrefix xs ys ⊎ IsPrefix ys xs → length xs ≤ length ys → IsPrefix xs ys
   shorter_is_prefix xs ys met le =

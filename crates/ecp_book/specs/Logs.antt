@@ -1,5 +1,5 @@
 -- Logs, and what is known of one.
-use Rattle.std.specs.Prelude.{ℕ, List, []}
+use Rattle.std.specs.Prelude.{ℕ, ◌+◌, List, []}
 use Rattle.atomic_table.specs.Seated.{TableId}
 
 -- the items of a log, the oldest first; an item is a list of whole numbers
@@ -10,6 +10,14 @@ Log = List (List ℕ)
 pub record Known : Type 0 where
   pub log : ℕ
   pub items : Log
+
+-- the log of a service that has the items of its history
+abbrev pub history_log : ℕ
+history_log = 0
+
+-- the log of a node
+abbrev pub node_log : ℕ → ℕ
+node_log node = node + 1
 
 -- how many logs a book has
 abbrev pub logs_of : TableId → ℕ

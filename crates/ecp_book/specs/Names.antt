@@ -1,13 +1,7 @@
 -- What the name of a service states.
 use Rattle.std.specs.Prelude.{ℕ, List, [], Bool}
 use Rattle.atomic_table.specs.Seated.{TableId}
-
--- a code of n rows of which k rebuild the rest, the number of nodes, and the bytes of a block
-pub record Shape : Type 0 where
-  pub k : ℕ
-  pub n : ℕ
-  pub nodes : ℕ
-  pub block : ℕ
+use Rattle.ecp_shape.specs.declared.shape.Shape.{Shape}
 
 -- a node's store at the making of the node: its count of faults, and whether it is faultless
 pub record StoreStart : Type 0 where
@@ -24,4 +18,4 @@ abbrev pub no_book : TableId
 no_book = record { words = 0; slots = 0; views_name = 0; atom = 0; block = 0; offset = 0; slot_names = [] }
 
 abbrev pub no_shape : Shape
-no_shape = record { k = 0; n = 0; nodes = 0; block = 0 }
+no_shape = record { n = 0; k = 0; nodes = 0; block = 0 }

@@ -11,7 +11,8 @@ use std::marker::Model;
 /// The table of a book: one word a log, and no slot.
 pub(crate) type Words = Table<(), View, u64, Lengths, Global>;
 
-const MOST_LOGS: usize = 256;
+/// How many logs a book has at most.
+pub const MAX_LOGS: u32 = 256;
 
 /// A book that has no name yet. Contracts see which book it is.
 #[derive(Drop)]
@@ -38,10 +39,10 @@ impl Blank {
     /// A book of `logs` empty logs. Want of memory is the only error.
     pub fn new(alloc: Global, logs: u32) -> Result<Blank, NoMemory>
         requires some { 1 ≤ logs }
-        requires most { logs ≤ 256 }
+        requires most { logs ≤ MAX_LOGS }
         ensures { IfOk result (λ b. logs_of b ≡ logs) }
     {
-        let lengths = [0; MOST_LOGS];
+        let lengths = [0; MAX_LOGS as usize];
         let (words, seat) = Table::of_words(alloc, &lengths[..logs as usize], &u64::from(logs))?;
         Ok(Blank { words, seat, logs })
     }

@@ -4,7 +4,7 @@
 //! beginning of that list, and may be copied, sent to other threads and met with the keeper or another tag. The lists
 //! exist in the proofs alone; what threads share is one atomic word a log, its length.
 //!
-//! It stands on `atomic_table` alone. The layer above may rely on this: a tag's list is a prefix of its log's list,
+//! It stands on `atomic_table`, and on `ecp_shape` for what a name states. The layer above may rely on this: a tag's list is a prefix of its log's list,
 //! which `meet` shows, and of two tags on one log the list of the one is a prefix of the other's, which `meet_tags`
 //! shows. No call but `Blank::new` and `Book::open` takes memory, and none waits. `tests/till.rt` is a worked caller, and
 //! `proofs/Prefixes.antt` has the lemmas on prefixes that callers need.
@@ -20,7 +20,7 @@ mod steps;
 mod tag;
 mod view;
 
-pub use blank::Blank;
+pub use blank::{Blank, MAX_LOGS};
 pub use book::Book;
 pub use entered::Entered;
 pub use keeper::Keeper;

@@ -2,16 +2,18 @@ use std::marker::Brand;
 
 /// What all parts of one service state to contracts: which book it has, and its bounds. Code sees nothing of it.
 ///
-/// Make a `Blank` first, and then call a function over `N: Names`, in which `N` stands for that blank's book.
-pub trait Names: Send + Sync {
+/// Make a `Blank` first, and then call a function over `N: Names`, in which `N` stands for that blank's book. A function
+/// that starts threads says `N: Names + Send + Sync` itself.
+pub trait Names {
     ghost use Rattle.std.specs.Prelude.{ℕ, List, Bool};
     ghost use Rattle.atomic_table.specs.Seated.{TableId};
-    ghost use Rattle.ecp_book.specs.Names.{Shape, StoreStart, PutBound};
+    ghost use Rattle.ecp_book.specs.Names.{StoreStart, PutBound};
+    ghost use Rattle.ecp_shape.specs.declared.shape.Shape.{Shape};
 
     /// Which book.
     ghost book: { TableId };
 
-    /// The numbers of the code, of nodes, and of bytes in a block.
+    /// The sizes that the service is opened with.
     ghost shape: { Shape };
 
     /// How many callers there are.

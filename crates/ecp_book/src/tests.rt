@@ -54,7 +54,7 @@ fn a_tag_is_copied_in_another_thread(rt: HostRuntime) -> Result<(), Fail> {
     copied_elsewhere::<Brand, _>(&rt, rt.alloc(), blank)
 }
 
-fn copied_elsewhere<N: Names, R: Threads + Abort + Sync>(
+fn copied_elsewhere<N: Names + Send + Sync, R: Threads + Abort + Sync>(
     rt: &R,
     alloc: Global,
     blank: Blank,

@@ -1,4 +1,5 @@
 use Rattle.std.specs.Prelude.{ℕ, ◌<◌, ◌≤◌, List, ◌++◌, codes, decimal}
+use Rattle.ecp_shape.specs.declared.limits.TheConstants.{MAX_ROWS}
 
 -- how many rows a stripe has, and how many of them are data
 pub record Shape : Type 0 where
@@ -9,7 +10,7 @@ pub record Shape : Type 0 where
 pub record IsShape (n k : ℕ) : Type 0 where
   pub data_rows : 1 ≤ k
   pub parity_rows : k < n
-  pub at_most : n ≤ 16
+  pub at_most : n ≤ MAX_ROWS
 
 -- what is printed of numbers that no code has
 abbrev pub bad_shape_text : ℕ → ℕ → List ℕ

@@ -9,11 +9,12 @@ ghost use Rattle.ecp_code.specs.Weights.{weight as weight_of};
 use crate::data_weights::data_weights;
 use ecp_field::{add, mul};
 use ecp_inverse::{Matrix, invert};
+use ecp_shape::limits::MAX_ROWS;
 
 /// The inverse of the matrix whose row i has the weights of the data rows for row `rows[i]`. It is always there.
 pub(crate) fn inverse_of(rows: &[u8]) -> Matrix
     requires some { 1 ≤ length rows.now }
-    requires few { length rows.now ≤ 16 }
+    requires few { length rows.now ≤ MAX_ROWS }
     requires distinct { IsDistinct nat_eq rows.now }
     ensures size { result.size ≡ length rows.now }
     ensures bytes { AreByteCells (cell result) }
@@ -31,7 +32,7 @@ pub(crate) fn inverse_of(rows: &[u8]) -> Matrix
 /// The matrix whose row i has the weights of the data rows for row `rows[i]`.
 fn matrix_of(rows: &[u8]) -> Matrix
     requires some { 1 ≤ length rows.now }
-    requires few { length rows.now ≤ 16 }
+    requires few { length rows.now ≤ MAX_ROWS }
     ensures size { result.size ≡ length rows.now }
     ensures cells { (i j : ℕ) → i < length rows.now → j < length rows.now →
         cell result i j ≡ weight_of (range_with_len 0 (length rows.now)) j (slice_index rows.now i) }

@@ -11,6 +11,7 @@ use crate::data_weights::data_weights;
 use crate::rows::{copy_of_row, sum_of_blocks};
 use crate::stripe::{Stripe, filled_bytes};
 use crate::weights::Weights;
+use ecp_shape::limits::MAX_ROWS;
 use ecp_store::{Block, NoMemory};
 use std::alloc::Global;
 use std::marker::Model;
@@ -41,7 +42,7 @@ impl Code {
         ensures ok { IfOk result (λ code. (code.n ≡ n) × (code.k ≡ k)) }
         ensures err { IfErr result (λ bad. (bad.n ≡ n) × (bad.k ≡ k)) }
     {
-        if 1 <= k && k < n && n <= 16 {
+        if 1 <= k && k < n && n <= MAX_ROWS {
             Ok(Code {
                 n: n as u8,
                 k: k as u8,
@@ -80,12 +81,12 @@ impl Code {
         requires target { target < self.now.n }
         ensures len { result.len ≡ self.now.k }
         ensures weights { take self.now.k result.w ≡ weights rows.now target }
-        ensures rest { drop self.now.k result.w ≡ replicate (16 - self.now.k) 0 }
+        ensures rest { drop self.now.k result.w ≡ replicate (MAX_ROWS - self.now.k) 0 }
     {
         let k = self.k;
         let inverse = inverse_of(rows);
         let data = data_weights(k, target);
-        let mut w = [0; 16];
+        let mut w = [0; MAX_ROWS as usize];
         for i in 0..k {
             w[i as usize] = times_column(&data[..k as usize], &inverse, i);
         }

@@ -15,7 +15,7 @@ pub fn data_row_law()
 /// Decoding: as many distinct rows as a stripe has blocks of data give every row, as the sum of these rows, each times
 /// its weight among them.
 pub fn decoding_law()
-    ensures { (d : List (List ℕ)) → (rows : List ℕ) → (t : ℕ)
-        → IsData d → length rows ≡ length d → IsDistinct nat_eq rows → AreBytes rows → t < 2 ^ 8
+    ensures { (d : List (List ℕ)) (rows : List ℕ) (t : ℕ) →
+        IsData d → length rows ≡ length d → IsDistinct nat_eq rows → AreBytes rows → t < 2 ^ 8
         → row d t ≡ weighted_sum (block_len d) (weights rows t) (map (row d) rows) }
 {}

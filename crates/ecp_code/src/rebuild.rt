@@ -5,6 +5,7 @@ ghost use Rattle.ecp_code.specs.Stripes.{blocks, filled, stripe_len};
 
 use crate::code::Code;
 use crate::rows::{add_block, bytes_of_row};
+use ecp_shape::limits::MAX_ROWS;
 use ecp_store::{Block, NoMemory};
 use std::alloc::Global;
 
@@ -52,7 +53,7 @@ impl Code {
     fn helpers(&self, row: u8) -> [u8; 16]
         ensures { take self.now.k result ≡ other_rows self.now.k row }
     {
-        let mut rows = [0; 16];
+        let mut rows = [0; MAX_ROWS as usize];
         for i in 0..self.k() {
             rows[i as usize] = if i < row { i } else { i + 1 };
         }

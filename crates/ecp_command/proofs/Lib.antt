@@ -1,13 +1,3 @@
 pub mod Decimals
-pub mod Dividing
-pub mod Gathering
 pub mod Inputs
-pub mod Keyed
-pub mod OneForm
-pub mod Owning
-pub mod Scripts
-pub mod Spelled
-pub mod Spending
-pub mod Tops
-pub mod Unique
 pub mod WordLists

@@ -4,8 +4,8 @@ use Rattle.std.specs.declared.alloc.Global.{Global}
 use Rattle.std.specs.Prelude.{codes}
 use Rattle.std.specs.Cmp.Lexicographic.{same_text}
 use lib.Pointwise.{pointwise}
-use Rattle.ecp_command.specs.declared.commands.Command.{Command}
-use Rattle.ecp_command.specs.declared.commands.Command.TheVariants.{Run, RunDir, Mend, Check, Soak}
+use Rattle.ecp_command.specs.declared.words.commands.Command.{Command}
+use Rattle.ecp_command.specs.declared.words.commands.Command.TheVariants.{Run, RunDir, Mend, Check, Soak}
 use Rattle.ecp_command.specs.Words.{IsSpelled, IsRow, texts}
 use Rattle.ecp_command.proofs.Decimals.{same_number}
 

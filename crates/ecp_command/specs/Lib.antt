@@ -1,13 +1,2 @@
+pub mod Input
 pub mod Words
-pub mod Cuts
-pub mod Lines
-pub mod Settings
-pub mod Forms
-pub mod Limits
-pub mod Calls
-pub mod Texts
-pub mod Totals
-pub mod Accepted
-pub mod Script
-pub mod Costs
-pub mod Lists

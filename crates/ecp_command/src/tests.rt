@@ -1,20 +1,36 @@
-use super::{Call, Command, Head, Input, Refusal, Setting, command, read_input};
+use super::{Call, Command, Head, Input, Refusal, Setting, Subject, command, read_input};
+use ecp_shape::limits::MAX_INPUT;
 use std::alloc::{AllocError, Global};
 use std::test::Fail;
 
-const HEAD: &str = "k = 2\nn = 3\nnodes = 3\nblock = 1\n---\n";
+// The settings that have no default, as a head spells them.
+fn sizes(alloc: Global, k: &str, n: &str, nodes: &str, block: &str) -> Result<String, AllocError> {
+    format!(in alloc; "k = {k}\nn = {n}\nnodes = {nodes}\nblock = {block}\n")
+}
+
+// A head and its end, with one parity row for each data row.
+fn mirror(alloc: Global, block: &str) -> Result<String, AllocError> {
+    let head = sizes(alloc, "1", "2", "2", block)?;
+    format!(in alloc; "{head}---\n")
+}
+
+// A script under a head of four lines and its end.
+fn input(alloc: Global, script: &str) -> Result<String, AllocError> {
+    let head = sizes(alloc, "2", "3", "3", "1")?;
+    format!(in alloc; "{head}---\n{script}")
+}
 
 // What an input is refused for, or None where it is accepted.
 fn refusal(alloc: Global, input: &[u8]) -> Option<Refusal> {
-    if input.len() > 16_777_216 {
+    if input.len() > MAX_INPUT {
         return None;
     }
     read_input(alloc, input).err()
 }
 
-// The same of a script under a head of four keys.
+// The same of a script.
 fn script_refusal(alloc: Global, script: &str) -> Result<Option<Refusal>, AllocError> {
-    let input = format!(in alloc; "{HEAD}{script}")?;
+    let input = input(alloc, script)?;
     Ok(refusal(alloc, input.as_bytes()))
 }
 
@@ -28,7 +44,7 @@ fn repeated(alloc: Global, head: &str, line: &str, times: u32) -> Result<String,
 }
 
 fn accepted(alloc: Global, input: &str) -> Result<Input, Fail> {
-    if input.len() > 16_777_216 {
+    if input.len() > MAX_INPUT {
         return Err(Fail::from("too long"));
     }
     Ok(read_input(alloc, input.as_bytes())?)
@@ -74,61 +90,20 @@ fn reads_the_words_of_a_command(rt: HostRuntime) -> Result<(), Fail> {
 }
 
 #[test]
-fn refuses_a_head_by_its_first_fault(rt: HostRuntime) {
+fn refuses_an_input_without_a_head(rt: HostRuntime) {
     let alloc = rt.alloc();
     for (input, want) in [
         ("", Refusal::NoRule),
-        ("k = 2\nn = 3\nnodes = 3\nblock = 1\n", Refusal::NoRule),
         ("k =\n", Refusal::NoRule),
         ("k = 2\n ---\n", Refusal::NoRule),
         ("k = 2\n---\r\n", Refusal::NoRule),
         ("k =\n---\nfetch a 0\n", Refusal::NotToml),
         ("k = 2\nk = 2\n---\n", Refusal::NotToml),
         ("---\n", Refusal::Key(Setting::K)),
+        ("x = 1\n---\n", Refusal::Key(Setting::K)),
         (
             "n = 3\nnodes = 3\nblock = 1\n---\n",
             Refusal::Key(Setting::K),
-        ),
-        ("x = 1\n---\n", Refusal::Key(Setting::K)),
-        (
-            "k = \"2\"\nn = 3\nnodes = 3\nblock = 1\n---\n",
-            Refusal::Key(Setting::K),
-        ),
-        (
-            "k = 2.0\nn = 3\nnodes = 3\nblock = 1\n---\n",
-            Refusal::Key(Setting::K),
-        ),
-        (
-            "k = 0\nn = 3\nnodes = 3\nblock = 1\n---\n",
-            Refusal::Key(Setting::K),
-        ),
-        (
-            "k = 16\nn = 17\nnodes = 17\nblock = 1\n---\n",
-            Refusal::Key(Setting::K),
-        ),
-        (
-            "k = 2\nn = 2\nnodes = 3\nblock = 1\n---\n",
-            Refusal::Key(Setting::N),
-        ),
-        (
-            "k = 2\nn = 17\nnodes = 17\nblock = 1\n---\n",
-            Refusal::Key(Setting::N),
-        ),
-        (
-            "k = 2\nn = 3\nnodes = 2\nblock = 1\n---\n",
-            Refusal::Key(Setting::Nodes),
-        ),
-        (
-            "k = 2\nn = 3\nnodes = 33\nblock = \"\"\n---\n",
-            Refusal::Key(Setting::Nodes),
-        ),
-        (
-            "k = 2\nn = 3\nnodes = 3\nblock = 0\n---\n",
-            Refusal::Key(Setting::Block),
-        ),
-        (
-            "k = 2\nn = 3\nnodes = 3\nblock = 65537\n---\n",
-            Refusal::Key(Setting::Block),
         ),
     ] {
         assert_eq!(rt; refusal(alloc, input.as_bytes()), Some(want), "at {input}");
@@ -137,8 +112,36 @@ fn refuses_a_head_by_its_first_fault(rt: HostRuntime) {
 }
 
 #[test]
+fn refuses_a_head_by_its_first_fault(rt: HostRuntime) -> Result<(), Fail> {
+    let alloc = rt.alloc();
+    for (k, n, nodes, block, want) in [
+        ("\"2\"", "3", "3", "1", Setting::K),
+        ("2.0", "3", "3", "1", Setting::K),
+        ("0", "3", "3", "1", Setting::K),
+        ("16", "17", "17", "1", Setting::K),
+        ("2", "2", "3", "1", Setting::N),
+        ("2", "17", "17", "1", Setting::N),
+        ("2", "3", "2", "1", Setting::Nodes),
+        ("2", "3", "33", "\"\"", Setting::Nodes),
+        ("2", "3", "3", "0", Setting::Block),
+        ("2", "3", "3", "65537", Setting::Block),
+    ] {
+        let head = sizes(alloc, k, n, nodes, block)?;
+        assert_eq!(rt; refusal(alloc, head.as_bytes()), Some(Refusal::NoRule));
+        let input = format!(in alloc; "{head}---\n")?;
+        assert_eq!(rt;
+            refusal(alloc, input.as_bytes()),
+            Some(Refusal::Key(want)),
+            "at {head}"
+        );
+    }
+    Ok(())
+}
+
+#[test]
 fn refuses_a_setting_with_a_default(rt: HostRuntime) -> Result<(), Fail> {
     let alloc = rt.alloc();
+    let head = sizes(alloc, "2", "3", "3", "5")?;
     for (line, want) in [
         ("slice = 0", Refusal::Key(Setting::Slice)),
         ("slice = 6", Refusal::Key(Setting::Slice)),
@@ -152,7 +155,7 @@ fn refuses_a_setting_with_a_default(rt: HostRuntime) -> Result<(), Fail> {
         ("x = 1\nworkers = 9", Refusal::Key(Setting::Workers)),
         ("[k2]", Refusal::UnknownKey),
     ] {
-        let input = format!(in alloc; "k = 2\nn = 3\nnodes = 3\nblock = 5\n{line}\n---\nfetch\n")?;
+        let input = format!(in alloc; "{head}{line}\n---\nfetch\n")?;
         assert_eq!(rt; refusal(alloc, input.as_bytes()), Some(want), "at {line}");
     }
     Ok(())
@@ -220,15 +223,16 @@ fn refuses_a_line_without_a_form(rt: HostRuntime) -> Result<(), Fail> {
 #[test]
 fn keeps_each_limit_and_refuses_one_past_it(rt: HostRuntime) -> Result<(), Fail> {
     let alloc = rt.alloc();
-    let small = "k = 1\nn = 2\nnodes = 2\nblock = 1\n---\n";
-    let large = "k = 1\nn = 16\nnodes = 16\nblock = 65536\n---\n";
+    let small = mirror(alloc, "1")?;
+    let large = sizes(alloc, "1", "16", "16", "65536")?;
+    let large = format!(in alloc; "{large}---\n")?;
     let put = repeated(alloc, "put a hex ", "00", 4096)?;
     let put = repeated(alloc, put.as_str(), "\n", 1)?;
     for (head, line, most) in [
-        (small, "lose 0\n", 10_000),
-        (large, "read a 0\n", 1_024),
-        (large, "put a hex 00\n", 1_024),
-        (small, put.as_str(), 16),
+        (small.as_str(), "lose 0\n", 10_000),
+        (large.as_str(), "read a 0\n", 1_024),
+        (large.as_str(), "put a hex 00\n", 1_024),
+        (small.as_str(), put.as_str(), 16),
     ] {
         let at_limit = repeated(alloc, head, line, most)?;
         assert_eq!(rt; refusal(alloc, at_limit.as_bytes()), None, "at {most}");
@@ -246,10 +250,10 @@ fn keeps_each_limit_and_refuses_one_past_it(rt: HostRuntime) -> Result<(), Fail>
 fn keeps_the_limits_of_one_put(rt: HostRuntime) -> Result<(), Fail> {
     let alloc = rt.alloc();
     let digits = repeated(alloc, "", "0F", 4_096)?;
-    let large = "k = 1\nn = 2\nnodes = 2\nblock = 65536\n---\nput a hex ";
-    let small = "k = 1\nn = 2\nnodes = 2\nblock = 1\n---\nput a hex ";
-    for (head, times) in [(large, 1_024), (small, 1)] {
-        let at_limit = repeated(alloc, head, digits.as_str(), times)?;
+    for (block, times) in [("65536", 1_024), ("1", 1)] {
+        let mut head = mirror(alloc, block)?;
+        head.push_str("put a hex ")?;
+        let at_limit = repeated(alloc, head.as_str(), digits.as_str(), times)?;
         assert_eq!(rt; refusal(alloc, at_limit.as_bytes()), None, "at {times}");
         let past_it = repeated(alloc, at_limit.as_str(), "0F", 1)?;
         assert_eq!(rt;
@@ -274,9 +278,9 @@ fn reads_the_settings_with_their_defaults(rt: HostRuntime) -> Result<(), Fail> {
         workers: 0,
         cyclic: false,
     };
-    assert_eq!(rt; accepted(alloc, HEAD)?.head, small);
+    assert_eq!(rt; accepted(alloc, input(alloc, "")?.as_str())?.head, small);
     let text =
-        "n = 16\nk = 15\nblock = 65536\nnodes = 32\npath = 'linear' # the one so far\nworkers = 8\nwindow = 0x10\n---";
+        "n = 16\nk = 15\nblock = 65536\nnodes = 32\npath = 'linear' # the default\nworkers = 8\nwindow = 0x10\n---";
     let large = Head {
         k: 15,
         n: 16,
@@ -299,8 +303,7 @@ fn reads_the_calls_of_a_script(rt: HostRuntime) -> Result<(), Fail> {
     let alloc = rt.alloc();
     let script =
         "# a comment\n\nsession 7\nput a.B_-9 hex 4aFf\nput e hex -\n#\nread a 7\nlose 4294967295\nsession 3\n";
-    let input = format!(in alloc; "{HEAD}{script}")?;
-    let input = accepted(alloc, input.as_str())?;
+    let input = accepted(alloc, input(alloc, script)?.as_str())?;
     assert_eq!(rt; input.phases, 1);
     let [session] = input.sessions.as_slice() else {
         return Err(Fail::from("one session"));
@@ -329,9 +332,9 @@ fn reads_the_calls_of_a_script(rt: HostRuntime) -> Result<(), Fail> {
     Ok(())
 }
 
-// Prints what a head under four settings, with these lines more, is refused for.
-fn printed(alloc: Global, k: &str, n: &str, nodes: &str, more: &str) -> Result<String, Fail> {
-    let input = format!(in alloc; "k = {k}\nn = {n}\nnodes = {nodes}\n{more}\n---\nfetch\n")?;
+// Prints what a head with these lines behind its sizes is refused for.
+fn printed(alloc: Global, sizes: &str, more: &str) -> Result<String, Fail> {
+    let input = format!(in alloc; "{sizes}{more}\n---\nfetch\n")?;
     let Some(refusal) = refusal(alloc, input.as_bytes()) else {
         return Err(Fail::from("not refused"));
     };
@@ -341,42 +344,24 @@ fn printed(alloc: Global, k: &str, n: &str, nodes: &str, more: &str) -> Result<S
 #[test]
 fn prints_the_key_of_the_first_fault(rt: HostRuntime) -> Result<(), Fail> {
     let alloc = rt.alloc();
-    for (k, n, nodes, more, want) in [
-        ("0", "17", "33", "block = 0", "head: k"),
-        ("2", "2", "33", "block = 0", "head: n"),
-        ("2", "3", "2", "block = 0", "head: nodes"),
-        ("2", "3", "3", "slice = 0", "head: block"),
-        (
-            "2",
-            "3",
-            "3",
-            "block = 5\nslice = 6\nwindow = 0",
-            "head: slice",
-        ),
-        (
-            "2",
-            "3",
-            "3",
-            "block = 5\nwindow = 17\nworkers = 9",
-            "head: window",
-        ),
-        (
-            "2",
-            "3",
-            "3",
-            "block = 5\nworkers = 9\npath = 1",
-            "head: workers",
-        ),
-        (
-            "2",
-            "3",
-            "3",
-            "block = 5\npath = \"ring\"\nx = 1",
-            "head: path",
-        ),
-        ("2", "3", "3", "block = 5\nx = 1", "head: unknown key"),
+    for (k, n, nodes, block, want) in [
+        ("0", "17", "33", "0", "head: k"),
+        ("2", "2", "33", "0", "head: n"),
+        ("2", "3", "2", "0", "head: nodes"),
+        ("2", "3", "3", "0", "head: block"),
     ] {
-        assert_eq!(rt; printed(alloc, k, n, nodes, more)?.as_str(), want);
+        let head = sizes(alloc, k, n, nodes, block)?;
+        assert_eq!(rt; printed(alloc, head.as_str(), "slice = 0")?.as_str(), want);
+    }
+    let head = sizes(alloc, "2", "3", "3", "5")?;
+    for (more, want) in [
+        ("slice = 6\nwindow = 0", "head: slice"),
+        ("window = 17\nworkers = 9", "head: window"),
+        ("workers = 9\npath = 1", "head: workers"),
+        ("path = \"ring\"\nx = 1", "head: path"),
+        ("x = 1", "head: unknown key"),
+    ] {
+        assert_eq!(rt; printed(alloc, head.as_str(), more)?.as_str(), want);
     }
     Ok(())
 }
@@ -393,5 +378,8 @@ fn prints_each_refusal(rt: HostRuntime) -> Result<(), Fail> {
     ] {
         assert_eq!(rt; refusal.to_string(alloc)?.as_str(), want);
     }
+    let text = Refusal::Key(Setting::Block).text();
+    assert_eq!(rt; text.words, "head:");
+    assert_eq!(rt; text.subject, Subject::Key(Setting::Block));
     Ok(())
 }

@@ -1,9 +1,15 @@
+//! The words of a command line, and numbers in words.
+
 ghost use Rattle.std.specs.Prelude.{◌≡◌, ◌≤◌, ◌<◌, ◌↔◌, IsTrue, IfSome, IfNone, string_bytes};
-ghost use Rattle.ecp_command.specs.declared.commands.Command.{Command};
+ghost use Rattle.ecp_command.specs.declared.words.commands.Command.{Command};
 ghost use Rattle.ecp_command.specs.Words.{IsSpelled, IsRow, texts};
 
-use crate::commands::Command;
-use crate::numbers::number;
+mod commands;
+mod numbers;
+
+pub use commands::Command;
+use ecp_shape::limits::MAX_ROWS;
+pub(crate) use numbers::number;
 
 /// What the words of a command line ask for, or None where they are none of the forms.
 pub fn command(words: &[String]) -> Option<Command<'_>>
@@ -30,5 +36,5 @@ pub fn command(words: &[String]) -> Option<Command<'_>>
 fn is_row(k: u32, n: u32, row: u32) -> bool
     ensures { IsTrue result ↔ IsRow k n row }
 {
-    1 <= k && k < n && n <= 16 && row < n
+    1 <= k && k < n && n <= MAX_ROWS && row < n
 }

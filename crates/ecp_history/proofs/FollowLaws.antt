@@ -1,13 +1,15 @@
 -- An entry follows the earlier entries of its caller.
-use Rattle.std.proofs.Common.{◌≡◌, ℕ, zero, suc, ◌+◌, ◌<◌, ◌≤◌, Bool, true, false, cond, List, [], ◌∷◌, ◌++◌, Option, Some, ◌∙◌, ap, arith}
+use Rattle.std.proofs.Common.{◌≡◌, ℕ, zero, suc, ◌+◌, ◌<◌, ◌≤◌, Bool, true, false, cond, List, [], ◌∷◌, ◌++◌, Option, Some, ◌∙◌, ap, arith, subst, sym}
 use Rattle.std.specs.Prelude.{slice_get, nat_lt, unwrap_or}
 use Rattle.std.specs.List.{list_any}
 use Rattle.std.proofs.lemmas.Bool.Decides.{nat_tests}
-use Rattle.ecp_history.specs.declared.entry.Entry.{Entry}
-use Rattle.ecp_history.specs.declared.part.Part.TheVariants as part
-use Rattle.ecp_history.specs.declared.shape.Shape.{Shape}
-use Rattle.ecp_history.specs.Entries.{is_same_call}
+use Rattle.std.proofs.lemmas.Bool.{false≢true}
+use Rattle.ecp_entry.specs.declared.entry.Entry.{Entry}
+use Rattle.ecp_entry.specs.declared.part.Part.TheVariants as part
+use Rattle.ecp_shape.specs.declared.shape.Shape.{Shape}
+use Rattle.ecp_entry.specs.Entries.{is_same_call}
 use Rattle.ecp_history.specs.Follows.{after_last, is_same_caller, after_part, follows}
+use Rattle.ecp_history.specs.Parts.{PartFits}
 use Rattle.ecp_history.specs.Legal.{IsLegal}
 use Rattle.ecp_history.proofs.LegalLaws.{last_follows}
 
@@ -37,3 +39,9 @@ point_behind shape told before e x j legal ends alone here same =
     ap (after_part before e) ends ∙ ap (λ (b : Bool). cond b (after_last (is_same_call e) before) (after_last (is_same_caller e) before)) alone in
     let first : j < after_last (is_same_caller e) before = before_last (is_same_caller e) before j x here same in
     omega (arith, late, is, first)
+
+-- part 0 of a call stands before all others of it
+pub begins_once : (shape : Shape) (told : Bool) (before : List Entry) (e : Entry) → e.line.part ≡ part.Part 0 → list_any (is_same_call e) before ≡ true
+    → IsLegal shape told (before ++ e ∷ []) → ⊥
+begins_once shape told before e first has legal =
+    false≢true (sym (subst (PartFits shape before e) first (last_follows shape told before e legal).part) ∙ has)

@@ -1,14 +1,8 @@
-pub mod EntryLaws
-pub mod ItemLaws
+pub mod tables
 pub mod LegalLaws
+pub mod FrontLaws
 pub mod StripeLaws
 pub mod LossLaws
 pub mod FollowLaws
+pub mod CountLaws
 pub mod PlanLaws
-pub mod TextLaws
-pub mod LineLaws
-pub mod OrderLaws
-pub mod StoreLaws
-pub mod KeptLaws
-pub mod RowLaws
-pub mod MaskLaws

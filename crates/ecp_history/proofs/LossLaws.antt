@@ -5,13 +5,13 @@ use Rattle.std.specs.Option.{option_map_or}
 use Rattle.std.specs.List.{list_any}
 use Rattle.std.proofs.lemmas.Bool.{false≢true, or_parts}
 use Rattle.std.proofs.lemmas.List.Sums.{fold-append, sum_by-cons}
-use Rattle.ecp_history.specs.declared.act.Act.{Act}
-use Rattle.ecp_history.specs.declared.act.Act.TheVariants.{Stored, Lost, Joined, Restored, Drop}
-use Rattle.ecp_history.specs.declared.entry.Entry.{Entry}
-use Rattle.ecp_history.specs.declared.shape.Shape.{Shape}
-use Rattle.ecp_history.specs.Entries.{deed_node, loss_of, lost_node, brings}
-use Rattle.ecp_history.specs.Tables.{Standing, Stripe, PlainTable, start, stands_live, live_on}
-use Rattle.ecp_history.specs.Steps.{with_rows, without_node, lost, joined, with_block, change_row, after_act, after, table_of}
+use Rattle.ecp_entry.specs.declared.act.Act.{Act}
+use Rattle.ecp_entry.specs.declared.act.Act.TheVariants.{Stored, Lost, Joined, Restored, Drop}
+use Rattle.ecp_entry.specs.declared.entry.Entry.{Entry}
+use Rattle.ecp_shape.specs.declared.shape.Shape.{Shape}
+use Rattle.ecp_entry.specs.Entries.{deed_node, loss_of, lost_node, brings}
+use Rattle.ecp_history.specs.table.Tables.{Standing, Stripe, PlainTable, start, stands_live, live_on}
+use Rattle.ecp_history.specs.table.Steps.{with_rows, without_node, lost, joined, with_block, change_row, after_act, after, table_of}
 
 -- no row of these is live on the node
 abbrev pub NoneLive : ℕ → List Standing → Type 0

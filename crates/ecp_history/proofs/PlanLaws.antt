@@ -1,71 +1,66 @@
--- A log tells one history, and a sound plan stays sound as its front grows.
-use Rattle.std.proofs.Common.{◌≡◌, ℕ, Bool, true, false, List, [], ◌∷◌, ◌++◌, map, refl, sym, ◌∙◌, ap, subst}
+-- A sound plan stays sound as its front grows, and a block stays the same.
+use Rattle.std.proofs.Common.{◌≡◌, ℕ, Bool, true, false, List, ◌++◌, map, sym, ◌∙◌, ap, subst}
 use Rattle.ecp_code.specs.Rows.{row}
-use Rattle.ecp_history.specs.declared.entry.Entry.{Entry}
-use Rattle.ecp_history.specs.declared.shape.Shape.{Shape}
-use Rattle.ecp_history.specs.Items.{Tells}
-use Rattle.ecp_history.specs.Tables.{PlainTable, data_of}
-use Rattle.ecp_history.specs.Steps.{table_of}
+use Rattle.ecp_shape.specs.declared.shape.Shape.{Shape}
+use Rattle.ecp_entry.specs.declared.entry.Entry.{Entry}
+use Rattle.ecp_entry.specs.Told.{history_of}
+use Rattle.ecp_entry.proofs.ToldLaws.{history_of-append}
+use Rattle.ecp_history.specs.Fronts.{told_table, AreOfBlock, IsBlockIn}
+use Rattle.ecp_history.specs.table.Tables.{PlainTable, HasStripe, data_of}
+use Rattle.ecp_history.specs.table.Steps.{table_of}
 use Rattle.ecp_history.specs.Legal.{IsLegal, TellsLegal}
-use Rattle.ecp_history.specs.Plans.{AreRows, IsRouteIn, IsSoundPlan}
-use Rattle.ecp_history.proofs.ItemLaws.{item-injective}
+use Rattle.ecp_history.specs.Plans.{Plan, Route, AreRows, IsRoute, IsRouteIn, IsSoundPlan}
 use Rattle.ecp_history.proofs.StripeLaws.{stripe_stays}
 
--- what a longer log tells begins with what the log tells
-pub tells_more : (xs more : List (List ℕ)) (g h : List Entry) → Tells xs g → Tells (xs ++ more) h → (rest : List Entry) × (h ≡ g ++ rest)
-tells_more [] more [] h a b = (h, refl)
-tells_more [] more (d ∷ g) h a b = absurd a
-tells_more (x ∷ xs) more [] h a b = absurd a
-tells_more (x ∷ xs) more (d ∷ g) [] a b = absurd b
-tells_more (x ∷ xs) more (d ∷ g) (e ∷ h) a b =
-    let same : d ≡ e = (item-injective a.0.0 b.0.0 d e (sym a.0.1 ∙ b.0.1)).1 in
-    let rest : (rest : List Entry) × (h ≡ g ++ rest) = tells_more xs more g h a.1 b.1 in
-    (rest.0, ap (λ (y : Entry). y ∷ h) (sym same) ∙ ap (λ (ys : List Entry). d ∷ ys) rest.1)
-
-pub tells_one : (xs : List (List ℕ)) (g h : List Entry) → Tells xs g → Tells xs h → g ≡ h
-tells_one [] [] [] a b = refl
-tells_one [] [] (e ∷ h) a b = absurd b
-tells_one [] (d ∷ g) h a b = absurd a
-tells_one (x ∷ xs) [] h a b = absurd a
-tells_one (x ∷ xs) (d ∷ g) [] a b = absurd b
-tells_one (x ∷ xs) (d ∷ g) (e ∷ h) a b =
-    let same : d ≡ e = (item-injective a.0.0 b.0.0 d e (sym a.0.1 ∙ b.0.1)).1 in
-    ap (λ (y : Entry). y ∷ g) same ∙ ap (λ (ys : List Entry). e ∷ ys) (tells_one xs g h a.1 b.1)
-
 -- rows of the same data are the same
-rows_stay : (shape : Shape) (told : Bool) (t u : PlainTable) (s : ℕ) (rows : List ℕ) (bytes : List (List ℕ)) → data_of u s ≡ data_of t s → AreRows shape told t s rows bytes → AreRows shape told u s rows bytes
-rows_stay shape true t u s rows bytes same is = is ∙ ap (λ (d : List (List ℕ)). map (row d) rows) (sym same)
-rows_stay shape false t u s rows bytes same is = is
+rows_stay : (shape : Shape) (told : Bool) (t u : PlainTable) (route : Route) → data_of u route.stripe ≡ data_of t route.stripe
+    → AreRows shape told t route → AreRows shape told u route
+rows_stay shape true t u route same is = is ∙ ap (λ (d : List (List ℕ)). map (row d) route.rows) (sym same)
+rows_stay shape false t u route same is = is
 
-pub route_stays : (shape : Shape) (told : Bool) (front more : List (List ℕ)) (history : List Entry) (s : ℕ) (rows nodes : List ℕ) (bytes : List (List ℕ))
-    → IsRouteIn shape told history front s rows nodes bytes → TellsLegal shape told (front ++ more) → (later : List Entry) × IsRouteIn shape told later (front ++ more) s rows nodes bytes
-route_stays shape told front more history s rows nodes bytes is later =
-    let grown : (rest : List Entry) × (later.0 ≡ history ++ rest) = tells_more front more history later.0 is.told_by later.1 in
-    let legal : IsLegal shape told (history ++ grown.0) = subst (IsLegal shape told) grown.1 later.2 in
-    let tells : Tells (front ++ more) (history ++ grown.0) = subst (Tells (front ++ more)) grown.1 later.1 in
-    let stays = stripe_stays shape told history grown.0 s legal is.route.there in (
-      history ++ grown.0,
-      record {
-        told_by = tells;
-        legal = legal;
-        route = record {
-          there = stays.0;
-          in_stripe = is.route.in_stripe;
-          one_each = is.route.one_each;
-          on_nodes = is.route.on_nodes;
-          named = rows_stay shape told (table_of shape history) (table_of shape (history ++ grown.0)) s rows bytes stays.1 is.route.named;
-        };
-      },
-    )
+route_stays : (shape : Shape) (told : Bool) (front more : List (List ℕ)) (route : Route)
+    → IsRouteIn shape told front route → TellsLegal shape told (front ++ more) → IsRouteIn shape told (front ++ more) route
+route_stays shape told front more route is later =
+    let whole : history_of (front ++ more) ≡ history_of front ++ history_of more = history_of-append front more in
+    let legal : IsLegal shape told (history_of front ++ history_of more) = subst (IsLegal shape told) whole later.legal in
+    let stays = stripe_stays shape told (history_of front) (history_of more) route.stripe legal is.known.there in
+    let Later : List Entry → Type 0 = λ (h : List Entry). IsRoute shape told (table_of shape h) route in
+    record {
+      legal = later;
+      known = subst Later (sym whole) (record {
+        there = stays.0;
+        in_stripe = is.known.in_stripe;
+        one_each = is.known.one_each;
+        on_nodes = is.known.on_nodes;
+        named = rows_stay shape told (told_table shape front) (table_of shape (history_of front ++ history_of more)) route stays.1 is.known.named;
+      });
+    }
 
-pub plan_stays : (shape : Shape) (told : Bool) (front more : List (List ℕ)) (s target : ℕ) (rows nodes ws : List ℕ) (bytes : List (List ℕ)) (len slice lanes : ℕ)
-    → IsSoundPlan shape told front s target rows nodes ws bytes len slice lanes → TellsLegal shape told (front ++ more)
-    → IsSoundPlan shape told (front ++ more) s target rows nodes ws bytes len slice lanes
-plan_stays shape told front more s target rows nodes ws bytes len slice lanes sound later = record {
-  route = route_stays shape told front more sound.route.0 s rows nodes bytes sound.route.1 later;
+pub plan_stays : (shape : Shape) (told : Bool) (front more : List (List ℕ)) (plan : Plan)
+    → IsSoundPlan shape told front plan → TellsLegal shape told (front ++ more) → IsSoundPlan shape told (front ++ more) plan
+plan_stays shape told front more plan sound later = record {
+  helpers = route_stays shape told front more plan.route sound.helpers later;
   makes = sound.makes;
   len_is = sound.len_is;
   some = sound.some;
   within = sound.within;
   lanes_are = sound.lanes_are;
 }
+
+-- a block has the same bytes in every later table
+of_block_stays : (shape : Shape) (told : Bool) (t u : PlainTable) (s r : ℕ) (bytes : List ℕ) → data_of u s ≡ data_of t s
+    → AreOfBlock shape told t s r bytes → AreOfBlock shape told u s r bytes
+of_block_stays shape true t u s r bytes same is = is ∙ ap (λ (d : List (List ℕ)). row d r) (sym same)
+of_block_stays shape false t u s r bytes same is = is
+
+pub block_stays : (shape : Shape) (told : Bool) (front more : List (List ℕ)) (s r : ℕ) (bytes : List ℕ)
+    → IsBlockIn shape told front s r bytes → TellsLegal shape told (front ++ more) → IsBlockIn shape told (front ++ more) s r bytes
+block_stays shape told front more s r bytes is later =
+    let whole : history_of (front ++ more) ≡ history_of front ++ history_of more = history_of-append front more in
+    let legal : IsLegal shape told (history_of front ++ history_of more) = subst (IsLegal shape told) whole later.legal in
+    let stays = stripe_stays shape told (history_of front) (history_of more) s legal is.there in
+    record {
+      there = subst (λ (h : List Entry). HasStripe (table_of shape h) s) (sym whole) stays.0;
+      named = subst (λ (h : List Entry). AreOfBlock shape told (table_of shape h) s r bytes) (sym whole)
+          (of_block_stays shape told (told_table shape front) (table_of shape (history_of front ++ history_of more)) s r bytes stays.1 is.named);
+    }

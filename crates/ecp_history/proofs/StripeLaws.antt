@@ -8,14 +8,14 @@ use Rattle.std.specs.List.{list_any}
 use Rattle.std.proofs.lemmas.List.Folds.{list_any-append}
 use Rattle.std.proofs.lemmas.List.Sums.{fold-append}
 use Rattle.ecp_code.specs.Stripes.{stripes}
-use Rattle.ecp_history.specs.declared.act.Act.{Act}
-use Rattle.ecp_history.specs.declared.act.Act.TheVariants.{Stored, Lost, Joined, Restored, Drop}
-use Rattle.ecp_history.specs.declared.entry.Entry.{Entry}
-use Rattle.ecp_history.specs.declared.shape.Shape.{Shape}
-use Rattle.ecp_history.specs.Entries.{deed_node}
-use Rattle.ecp_history.specs.Tables.{Standing, Stripe, PlainTable, stripe_of, data_of, start}
-use Rattle.ecp_history.specs.Placement.{nodes_in}
-use Rattle.ecp_history.specs.Steps.{placed, rows_among, stripes_among, with_rows, without_node, lost, joined, with_block, change_row, after_act, after, table_of}
+use Rattle.ecp_entry.specs.declared.act.Act.{Act}
+use Rattle.ecp_entry.specs.declared.act.Act.TheVariants.{Stored, Lost, Joined, Restored, Drop}
+use Rattle.ecp_entry.specs.declared.entry.Entry.{Entry}
+use Rattle.ecp_shape.specs.declared.shape.Shape.{Shape}
+use Rattle.ecp_entry.specs.Entries.{deed_node}
+use Rattle.ecp_history.specs.table.Tables.{Standing, Stripe, PlainTable, stripe_of, data_of, start}
+use Rattle.ecp_history.specs.table.Placement.{nodes_in}
+use Rattle.ecp_history.specs.table.Steps.{placed, rows_among, stripes_among, with_rows, without_node, lost, joined, with_block, change_row, after_act, after, table_of}
 use Rattle.ecp_history.specs.Acts.{has_stripe, HoldsIn}
 use Rattle.ecp_history.specs.Legal.{IsLegal}
 use Rattle.ecp_history.proofs.LegalLaws.{onwards}

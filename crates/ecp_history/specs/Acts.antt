@@ -1,15 +1,16 @@
 -- What must hold where an act is said. t is the table before the entry, and p the one at its point.
 use Rattle.std.specs.Prelude.{◌≡◌, ◌≢◌, ℕ, suc, ◌+◌, ◌<◌, ◌≤◌, ◌⊎◌, ◌==◌, nat_le, nat_lt, Bool, true, false, not, ◌&&◌, ◌||◌, List, length, count_by, None, IsTrue, IsSome, IsSomeAnd, is_some}
 use Rattle.std.specs.List.{list_any}
+use Rattle.ecp_shape.specs.declared.limits.TheConstants.{MAX_SESSIONS}
 use Rattle.ecp_code.specs.Stripes.{stripes}
-use Rattle.ecp_history.specs.declared.act.Act.{Act}
-use Rattle.ecp_history.specs.declared.act.Act.TheVariants.{Stored, NameTaken, TooFewNodes, StoreFailed, Data, NoSuchFile, NoSuchBlock, Unrecoverable, Unsteady, Opened, Whole, Broken, Lost, NoSuchNode, NodeDown, Joined, NodeUp, Listed, NoNode, TargetDown, Restored, AlreadyLive, Clash, Gone, MendFailed, MendUnsteady, MendDown, Rebuilt, Stat, Drop}
-use Rattle.ecp_history.specs.declared.entry.Entry.{Entry}
-use Rattle.ecp_history.specs.declared.shape.Shape.{Shape}
-use Rattle.ecp_history.specs.Entries.{loss_of, is_loss, is_same_call}
-use Rattle.ecp_history.specs.Tables.{PlainTable, BlockName, File, file_of, is_live, is_lost, is_live_on, live_rows, live_on, lost_on, block, block_count, file_live, is_up, is_down, inc_of, up_count, up_mask}
+use Rattle.ecp_entry.specs.declared.act.Act.{Act}
+use Rattle.ecp_entry.specs.declared.act.Act.TheVariants.{Stored, NameTaken, TooFewNodes, StoreFailed, Data, NoSuchFile, NoSuchBlock, Unrecoverable, Unsteady, Opened, Whole, Broken, Lost, NoSuchNode, NodeDown, Joined, NodeUp, Listed, NoNode, TargetDown, Restored, AlreadyLive, Clash, Gone, MendFailed, MendUnsteady, MendDown, Rebuilt, Stat, Drop}
+use Rattle.ecp_entry.specs.declared.entry.Entry.{Entry}
+use Rattle.ecp_shape.specs.declared.shape.Shape.{Shape}
+use Rattle.ecp_entry.specs.Entries.{loss_of, is_loss, is_same_call}
+use Rattle.ecp_history.specs.table.Tables.{PlainTable, BlockName, File, file_of, is_live, is_lost, is_live_on, live_rows, live_on, lost_on, block, block_count, file_live, is_up, is_down, inc_of, up_count, up_mask}
 use Rattle.ecp_history.specs.Recoverable.{IsRecoverable}
-use Rattle.ecp_history.specs.Follows.{follows, NoLossFrom, is_voiding, AreSixteen}
+use Rattle.ecp_history.specs.Follows.{follows, NoLossFrom, is_voiding, AreOvertaking}
 use Rattle.ecp_history.specs.Calls.{Kind, ToPut, kind_of}
 use Rattle.ecp_history.specs.Named.{named_block, deed_index, OfNode, OfRebuild, OfTarget}
 use Rattle.ecp_history.specs.Parts.{HasPart, is_data, opens}
@@ -55,16 +56,16 @@ pub record LacksRows (shape : Shape) (t : PlainTable) (live : ℕ) (b : BlockNam
   pub counted : live ≡ live_rows t b.stripe
   pub few : live < shape.k
 
--- the name is free and enough nodes are up, but sixteen losses came between
+-- the name is free and enough nodes are up, but for each attempt a loss came between
 pub record PutUnsteady (shape : Shape) (before : List Entry) (t : PlainTable) (e : Entry) (at : List ℕ) : Type 0 where
   pub free : file_of t e.name ≡ None
   pub enough : shape.n ≤ up_count t
-  pub losses : AreSixteen shape before (follows before e) (λ _ x. is_some (loss_of x)) at
+  pub losses : AreOvertaking shape before (follows before e) (λ _ x. is_some (loss_of x)) at
 
--- the block is recoverable, but sixteen entries that are voiding for its stripe came between
+-- the block is recoverable, but for each attempt an entry came between that is voiding for its stripe
 pub record ReadUnsteady (shape : Shape) (before : List Entry) (t : PlainTable) (e : Entry) (at : List ℕ) (b : BlockName) : Type 0 where
   pub recoverable : IsRecoverable shape t b.stripe b.row
-  pub voids : AreSixteen shape before (follows before e) (λ u x. is_voiding u b.stripe x) at
+  pub voids : AreOvertaking shape before (follows before e) (λ u x. is_voiding u b.stripe x) at
 
 -- the numbers are those of the file
 pub record Opens (shape : Shape) (f : File) (len count first : ℕ) : Type 0 where
@@ -150,12 +151,12 @@ pub record IsGone (shape : Shape) (t : PlainTable) (s r live to : ℕ) : Type 0 
   pub counted : live ≡ live_rows t s
   pub few : live < shape.k
 
--- the target is up and the block recoverable, but sixteen entries came between that are voiding for its stripe or
--- losses of the target
+-- the target is up and the block recoverable, but for each attempt an entry came between that is voiding for its
+-- stripe or a loss of the target
 pub record MendsUnsteady (shape : Shape) (before : List Entry) (t : PlainTable) (e : Entry) (s r : ℕ) (at : List ℕ) (to : ℕ) : Type 0 where
   pub up : IsTrue (is_up t to)
   pub recoverable : IsRecoverable shape t s r
-  pub voids : AreSixteen shape before (follows before e) (λ u x. is_voiding u s x || is_loss to x) at
+  pub voids : AreOvertaking shape before (follows before e) (λ u x. is_voiding u s x || is_loss to x) at
 
 -- whether an act ends a part of a rebuild as restored, already live, clash, unrecoverable, store failed, unsteady or target down
 abbrev pub is_restored : Act → Bool
@@ -208,9 +209,9 @@ pub record Rebuilds (before : List Entry) (e : Entry) (restored live clash gone 
 
 -- the caller is the node on which the block is live
 abbrev pub GivesUp : PlainTable → Entry → ℕ → ℕ → Type 0
-GivesUp t e s r = (node : ℕ) × (e.line.caller ≡ 8 + node) × IsTrue (is_live_on t s r node)
+GivesUp t e s r = (node : ℕ) × (e.line.caller ≡ MAX_SESSIONS + node) × IsTrue (is_live_on t s r node)
 
--- sixteen positions for a put, and for the block that the entry speaks of otherwise
+-- the overtaking entries of a put, and otherwise those of the block that the entry speaks of
 abbrev pub UnsteadyFor : Shape → List Entry → PlainTable → Entry → List ℕ → Kind → Type 0
 UnsteadyFor shape before t e at ToPut = PutUnsteady shape before t e at
 UnsteadyFor shape before t e at _ = IsSomeAnd (named_block shape t e) (ReadUnsteady shape before t e at)

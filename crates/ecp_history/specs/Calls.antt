@@ -1,13 +1,14 @@
 -- Which act fits which deed and part, and what an entry says beside its act.
 use Rattle.std.specs.Prelude.{◌≡◌, ℕ, zero, suc, ◌<◌, ◌≤◌, ◌⊎◌, List, [], length, Option, Some, None, ⊤}
-use Rattle.ecp_history.specs.declared.act.Act.{Act}
-use Rattle.ecp_history.specs.declared.act.Act.TheVariants.{Stored, NameTaken, TooFewNodes, StoreFailed, Data, NoSuchFile, NoSuchBlock, Unrecoverable, Unsteady, Opened, Whole, Broken, Lost, NoSuchNode, NodeDown, Joined, NodeUp, Listed, NoNode, TargetDown, Restored, AlreadyLive, Clash, Gone, MendFailed, MendUnsteady, MendDown, Rebuilt, Stat, Drop}
-use Rattle.ecp_history.specs.declared.deed.Deed.{Deed}
-use Rattle.ecp_history.specs.declared.deed.Deed.TheVariants as deed
-use Rattle.ecp_history.specs.declared.entry.Entry.{Entry}
-use Rattle.ecp_history.specs.declared.part.Part.{Part}
-use Rattle.ecp_history.specs.declared.part.Part.TheVariants as part
-use Rattle.ecp_history.specs.Entries.{deed_name}
+use Rattle.ecp_shape.specs.declared.limits.TheConstants.{MAX_SESSIONS}
+use Rattle.ecp_entry.specs.declared.act.Act.{Act}
+use Rattle.ecp_entry.specs.declared.act.Act.TheVariants.{Stored, NameTaken, TooFewNodes, StoreFailed, Data, NoSuchFile, NoSuchBlock, Unrecoverable, Unsteady, Opened, Whole, Broken, Lost, NoSuchNode, NodeDown, Joined, NodeUp, Listed, NoNode, TargetDown, Restored, AlreadyLive, Clash, Gone, MendFailed, MendUnsteady, MendDown, Rebuilt, Stat, Drop}
+use Rattle.ecp_entry.specs.declared.deed.Deed.{Deed}
+use Rattle.ecp_entry.specs.declared.deed.Deed.TheVariants as deed
+use Rattle.ecp_entry.specs.declared.entry.Entry.{Entry}
+use Rattle.ecp_entry.specs.declared.part.Part.{Part}
+use Rattle.ecp_entry.specs.declared.part.Part.TheVariants as part
+use Rattle.ecp_entry.specs.Entries.{deed_name}
 
 -- the kinds of call
 pub data Kind : Type 0 where
@@ -81,10 +82,10 @@ FitsCall kind at (Rebuilt restored live clash gone failed unsteady down) = (kind
 FitsCall kind at (Stat len count live) = (kind ≡ ToStat) × (at ≡ AtEnd)
 FitsCall kind at (Drop stripe row) = (kind ≡ ToDrop) × (at ≡ AtEnd)
 
--- callers 0 to 7 are sessions; the others are nodes, and have no call but to give a block up
+-- callers below the number of sessions are sessions; the others are nodes, and have no call but to give a block up
 abbrev pub FitsCaller : ℕ → Option Deed → Type 0
-FitsCaller caller None = 8 ≤ caller
-FitsCaller caller (Some _) = caller < 8
+FitsCaller caller None = MAX_SESSIONS ≤ caller
+FitsCaller caller (Some _) = caller < MAX_SESSIONS
 
 -- the length of the file of a put
 abbrev pub put_len : Option Deed → Option ℕ

@@ -3,17 +3,18 @@ use Rattle.std.specs.Prelude.{◌≡◌, ℕ, zero, suc, ◌+◌, ◌<◌, ◌�
 use Rattle.std.specs.List.{list_any}
 use Rattle.std.specs.List.Sorted.{IsStrictlyIncreasing}
 use Rattle.std.specs.Option.{option_map_or}
-use Rattle.ecp_history.specs.declared.act.Act.{Act}
-use Rattle.ecp_history.specs.declared.act.Act.TheVariants.{Stored, Data, Restored}
-use Rattle.ecp_history.specs.declared.deed.Deed.{Deed}
-use Rattle.ecp_history.specs.declared.deed.Deed.TheVariants as deed
-use Rattle.ecp_history.specs.declared.entry.Entry.{Entry}
-use Rattle.ecp_history.specs.declared.part.Part.{Part}
-use Rattle.ecp_history.specs.declared.part.Part.TheVariants as part
-use Rattle.ecp_history.specs.declared.shape.Shape.{Shape}
-use Rattle.ecp_history.specs.Entries.{loss_of, is_loss, is_number, dropped_stripe, is_same_call, is_part_of}
-use Rattle.ecp_history.specs.Tables.{PlainTable, stands_live, rows_of}
-use Rattle.ecp_history.specs.Steps.{table_at}
+use Rattle.ecp_shape.specs.declared.limits.TheConstants.{MAX_ATTEMPTS}
+use Rattle.ecp_entry.specs.declared.act.Act.{Act}
+use Rattle.ecp_entry.specs.declared.act.Act.TheVariants.{Stored, Data, Restored}
+use Rattle.ecp_entry.specs.declared.deed.Deed.{Deed}
+use Rattle.ecp_entry.specs.declared.deed.Deed.TheVariants as deed
+use Rattle.ecp_entry.specs.declared.entry.Entry.{Entry}
+use Rattle.ecp_entry.specs.declared.part.Part.{Part}
+use Rattle.ecp_entry.specs.declared.part.Part.TheVariants as part
+use Rattle.ecp_shape.specs.declared.shape.Shape.{Shape}
+use Rattle.ecp_entry.specs.Entries.{loss_of, is_loss, is_number, dropped_stripe, is_same_call, is_part_of}
+use Rattle.ecp_history.specs.table.Tables.{PlainTable, stands_live, rows_of}
+use Rattle.ecp_history.specs.table.Steps.{table_at}
 
 -- the position after the last entry that passes the test, or 0 where none does
 abbrev pub after_last : (Entry → Bool) → List Entry → ℕ
@@ -46,6 +47,14 @@ after_part before e part.End =
 abbrev pub follows : List Entry → Entry → ℕ
 follows before e = after_part before e e.line.part
 
+-- e is the one entry of its call, and its point is not behind x, the entry of its caller at position j
+pub record LooksBefore (before : List Entry) (e x : Entry) (j : ℕ) : Type 0 where
+  pub ends : e.line.part ≡ part.End
+  pub alone : list_any (is_same_call e) before ≡ false
+  pub stands : slice_get before j ≡ Some x
+  pub same : is_same_caller e x ≡ true
+  pub early : e.line.point ≤ j
+
 -- whether the act speaks of the table at its point, and not of the one at its own position
 abbrev pub looks_back : Act → Bool
 looks_back (Stored first stripes up) = true
@@ -77,9 +86,9 @@ is_voiding t s e = loses_row t s (loss_of e) || is_number (dropped_stripe e.line
 abbrev pub passes_at : Shape → List Entry → (PlainTable → Entry → Bool) → ℕ → Bool
 passes_at shape before test v = option_map_or (test (table_at shape before v)) (slice_get before v) false
 
--- sixteen strictly rising positions, none below q, of entries that each pass the test
-pub record AreSixteen (shape : Shape) (before : List Entry) (q : ℕ) (test : PlainTable → Entry → Bool) (at : List ℕ) : Type 0 where
-  pub sixteen : length at ≡ 16
+-- for each attempt a position, strictly rising, none below q, of entries that each pass the test
+pub record AreOvertaking (shape : Shape) (before : List Entry) (q : ℕ) (test : PlainTable → Entry → Bool) (at : List ℕ) : Type 0 where
+  pub for_each : length at ≡ MAX_ATTEMPTS
   pub rising : IsStrictlyIncreasing at
   pub within : All (λ v. (q ≤ v) × (v < length before)) at
   pub each : All (λ v. IsTrue (passes_at shape before test v)) at

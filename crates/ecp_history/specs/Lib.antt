@@ -1,10 +1,5 @@
-pub mod Filled
-pub mod Names
-pub mod Entries
-pub mod Items
-pub mod Placement
-pub mod Tables
-pub mod Steps
+pub mod table
+pub mod Fronts
 pub mod Recoverable
 pub mod Follows
 pub mod Calls
@@ -12,11 +7,8 @@ pub mod Named
 pub mod Parts
 pub mod Acts
 pub mod Legal
+pub mod Spans
+pub mod Counted
+pub mod Files
 pub mod Plans
-pub mod Spaced
-pub mod JournalText
-pub mod ReplyText
 pub mod Journals
-pub mod Rising
-pub mod Changes
-pub mod Kept

@@ -1,13 +1,13 @@
 -- What an entry speaks of: a file block, a node, or the two nodes of a rebuild.
 use Rattle.std.specs.Prelude.{ℕ, zero, suc, nat_lt, if◌then◌else◌, List, Option, Some, None, IsSomeAnd, option_and_then}
-use Rattle.ecp_history.specs.declared.deed.Deed.{Deed}
-use Rattle.ecp_history.specs.declared.deed.Deed.TheVariants as deed
-use Rattle.ecp_history.specs.declared.entry.Entry.{Entry}
-use Rattle.ecp_history.specs.declared.part.Part.{Part}
-use Rattle.ecp_history.specs.declared.part.Part.TheVariants as part
-use Rattle.ecp_history.specs.declared.shape.Shape.{Shape}
-use Rattle.ecp_history.specs.Entries.{deed_node}
-use Rattle.ecp_history.specs.Tables.{PlainTable, BlockName, file_of, block_count, file_block}
+use Rattle.ecp_entry.specs.declared.deed.Deed.{Deed}
+use Rattle.ecp_entry.specs.declared.deed.Deed.TheVariants as deed
+use Rattle.ecp_entry.specs.declared.entry.Entry.{Entry}
+use Rattle.ecp_entry.specs.declared.part.Part.{Part}
+use Rattle.ecp_entry.specs.declared.part.Part.TheVariants as part
+use Rattle.ecp_shape.specs.declared.shape.Shape.{Shape}
+use Rattle.ecp_entry.specs.Entries.{deed_node}
+use Rattle.ecp_history.specs.table.Tables.{PlainTable, BlockName, file_of, block_count, file_block}
 
 -- a file block of the file with this name in the table, if there is one of this index
 abbrev pub block_at : Shape → PlainTable → List ℕ → ℕ → Option BlockName

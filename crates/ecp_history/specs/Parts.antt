@@ -1,17 +1,17 @@
 -- What must stand before a part of a `cat` or a rebuild, and which block it is about.
-use Rattle.std.specs.Prelude.{◌≡◌, ℕ, zero, suc, ◌-◌, ◌==◌, Bool, true, false, ◌&&◌, List, slice_get, Option, Some, None, IsTrue, IfSome, ⊤}
+use Rattle.std.specs.Prelude.{◌≡◌, ℕ, zero, suc, ◌-◌, ◌==◌, Bool, true, false, ◌&&◌, List, slice_get, Option, Some, None, IsTrue, IfSome}
 use Rattle.std.specs.List.{list_any}
-use Rattle.ecp_history.specs.declared.act.Act.{Act}
-use Rattle.ecp_history.specs.declared.act.Act.TheVariants.{Data, NoSuchFile, Opened, NoNode, TargetDown, Restored, AlreadyLive, Clash, Gone, MendFailed, MendUnsteady, MendDown}
-use Rattle.ecp_history.specs.declared.deed.Deed.{Deed}
-use Rattle.ecp_history.specs.declared.deed.Deed.TheVariants as deed
-use Rattle.ecp_history.specs.declared.entry.Entry.{Entry}
-use Rattle.ecp_history.specs.declared.part.Part.{Part}
-use Rattle.ecp_history.specs.declared.part.Part.TheVariants as part
-use Rattle.ecp_history.specs.declared.shape.Shape.{Shape}
-use Rattle.ecp_history.specs.Entries.{is_part_of, is_same_call}
-use Rattle.ecp_history.specs.Tables.{BlockName, lost_on}
-use Rattle.ecp_history.specs.Steps.{table_at}
+use Rattle.ecp_entry.specs.declared.act.Act.{Act}
+use Rattle.ecp_entry.specs.declared.act.Act.TheVariants.{Data, NoSuchFile, Opened, NoNode, TargetDown, Restored, AlreadyLive, Clash, Gone, MendFailed, MendUnsteady, MendDown}
+use Rattle.ecp_entry.specs.declared.deed.Deed.{Deed}
+use Rattle.ecp_entry.specs.declared.deed.Deed.TheVariants as deed
+use Rattle.ecp_entry.specs.declared.entry.Entry.{Entry}
+use Rattle.ecp_entry.specs.declared.part.Part.{Part}
+use Rattle.ecp_entry.specs.declared.part.Part.TheVariants as part
+use Rattle.ecp_shape.specs.declared.shape.Shape.{Shape}
+use Rattle.ecp_entry.specs.Entries.{is_part_of, is_same_call}
+use Rattle.ecp_history.specs.table.Tables.{BlockName, lost_on}
+use Rattle.ecp_history.specs.table.Steps.{table_at}
 use Rattle.ecp_history.specs.Follows.{follows}
 
 -- the blocks that part 0 of this rebuild listed: those lost on the node at its position
@@ -82,8 +82,9 @@ refuses _ = false
 abbrev pub IsAlone : List Entry → Entry → Type 0
 IsAlone before e = list_any (is_same_call e) before ≡ false
 
--- what must stand before a part of a call with this deed: before the end of one that is refused as a whole, nothing of it
+-- what must stand before a part of a call with this deed: nothing of the call before part 0, nor before the end of one
+-- that is refused as a whole
 abbrev pub PartFits : Shape → List Entry → Entry → Part → Type 0
-PartFits shape before e (part.Part zero) = ⊤
+PartFits shape before e (part.Part zero) = IsAlone before e
 PartFits shape before e (part.Part (suc j)) = LaterPartFits shape before e j e.deed
 PartFits shape before e part.End = IsTrue (refuses e.line.act) → IsAlone before e

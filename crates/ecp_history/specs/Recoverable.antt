@@ -1,7 +1,7 @@
 -- Which blocks can be had.
 use Rattle.std.specs.Prelude.{ℕ, ◌≤◌, ◌⊎◌, IsTrue}
-use Rattle.ecp_history.specs.declared.shape.Shape.{Shape}
-use Rattle.ecp_history.specs.Tables.{PlainTable, is_live, live_rows}
+use Rattle.ecp_shape.specs.declared.shape.Shape.{Shape}
+use Rattle.ecp_history.specs.table.Tables.{PlainTable, is_live, live_rows}
 
 -- a block is live, or at least k rows of its stripe are
 abbrev pub IsRecoverable : Shape → PlainTable → ℕ → ℕ → Type 0

@@ -1,6 +1,6 @@
 ghost use Rattle.std.specs.Prelude.{◌≡◌, ◌+◌, ◌<◌, ◌≤◌, [], ◌∷◌, ◌++◌, length, max, slice_get, OnErr, OnOk, Some};
 
-use crate::line::Line;
+use ecp_entry::Line;
 use ecp_store::NoMemory;
 use std::alloc::Global;
 use std::marker::Model;

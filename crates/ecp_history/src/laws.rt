@@ -1,29 +1,64 @@
-//! Laws of the definitions. Each is a function with an empty body, whose contract is the law.
+//! Laws of the definitions. Each is a function with an empty body, whose contract is the law. Those of entries and of
+//! what items tell are handed on from [`ecp_entry::laws`].
 
-ghost use Rattle.std.specs.Prelude.{◌≡◌, ℕ, ◌^◌, ◌<◌, ◌≤◌, All, Bool, true, false, List, [], ◌∷◌, ◌++◌, slice_get, Some, IsSome};
+ghost use Rattle.std.specs.Prelude.{◌≡◌, ℕ, ◌+◌, ◌<◌, ◌≤◌, Bool, true, false, if◌then◌else◌, List, [], ◌∷◌, ◌++◌, Some};
 ghost use Rattle.std.specs.List.{list_any};
-ghost use Rattle.ecp_history.specs.declared.entry.Entry.{Entry};
-ghost use Rattle.ecp_history.specs.declared.line.Line.{Line};
-ghost use Rattle.ecp_history.specs.declared.part.Part.TheVariants.{End};
-ghost use Rattle.ecp_history.specs.declared.shape.Shape.{Shape};
-ghost use Rattle.ecp_history.specs.Entries.{brings, is_same_call, loss_of};
-ghost use Rattle.ecp_history.specs.Items.{item, Tells};
-ghost use Rattle.ecp_history.specs.Tables.{PlainTable, data_of, live_on, live_rows, stripe_of};
-ghost use Rattle.ecp_history.specs.Steps.{table_of};
+ghost use Rattle.ecp_entry.specs.declared.entry.Entry.{Entry};
+ghost use Rattle.ecp_entry.specs.declared.part.Part.TheVariants.{Part};
+ghost use Rattle.ecp_shape.specs.Range.{IsInRange};
+ghost use Rattle.ecp_shape.specs.declared.limits.TheConstants.{MAX_SESSIONS};
+ghost use Rattle.ecp_shape.specs.declared.shape.Shape.{Shape};
+ghost use Rattle.ecp_entry.specs.Entries.{brings, is_same_call, loss_of};
+ghost use Rattle.ecp_entry.specs.Items.{item};
+ghost use Rattle.ecp_entry.specs.Told.{history_of};
+ghost use Rattle.ecp_history.specs.Fronts.{IsBlock, IsBlockIn};
+ghost use Rattle.ecp_history.specs.Files.{StoresBytes};
+ghost use Rattle.ecp_history.specs.Counted.{IsCounted, DropsCounted, spends_fault, faults_spent};
+ghost use Rattle.ecp_history.specs.table.Tables.{PlainTable, HasStripe, block, data_of, live_on, live_rows};
+ghost use Rattle.ecp_history.specs.table.Steps.{table_of};
 ghost use Rattle.ecp_history.specs.Recoverable.{IsRecoverable};
-ghost use Rattle.ecp_history.specs.Follows.{is_same_caller};
+ghost use Rattle.ecp_history.specs.Follows.{LooksBefore};
 ghost use Rattle.ecp_history.specs.Legal.{IsLegal, MayFollow, TellsLegal};
-ghost use Rattle.ecp_history.specs.JournalText.{journal_line, line_numbers};
-ghost use Rattle.ecp_history.specs.Plans.{IsSoundPlan};
+ghost use Rattle.ecp_history.specs.Plans.{IsSoundPlan, Plan};
 
-/// Different entries have different items, and so have entries of different hands.
-pub fn items_differ()
-    ensures { (g h : ℕ) (d e : Entry) → item g d ≡ item h e → (g ≡ h) × (d ≡ e) }
+pub use ecp_entry::laws::{
+    beginnings_tell_beginnings, each_hand_has_its_entries, items_are_read_back, items_differ,
+    journal_lines_differ, losses_are_told, one_history_is_told, one_item_tells_one_entry,
+};
+
+/// A beginning of the items of a legal history tells a legal history, with which the whole begins.
+pub fn legal_beginnings_are_told()
+    ensures legal { (shape : Shape) (told : Bool) (front more : List (List ℕ)) →
+        TellsLegal shape told (front ++ more) → TellsLegal shape told front }
+    ensures history { (front more : List (List ℕ)) → history_of (front ++ more) ≡ history_of front ++ history_of more }
 {}
 
-/// A list of items tells one history.
-pub fn one_history_is_told()
-    ensures { (items : List (List ℕ)) (g h : List Entry) → Tells items g → Tells items h → g ≡ h }
+/// The items of a legal history, and that of an entry that may follow, tell the legal history with this entry at its end.
+pub fn told_history_grows()
+    ensures legal { (shape : Shape) (told : Bool) (items : List (List ℕ)) (hand : ℕ) (e : Entry) →
+        TellsLegal shape told items → MayFollow shape told (history_of items) e →
+        TellsLegal shape told (items ++ item hand e ∷ []) }
+    ensures history { (items : List (List ℕ)) (hand : ℕ) (e : Entry) →
+        history_of (items ++ item hand e ∷ []) ≡ history_of items ++ e ∷ [] }
+{}
+
+/// The blocks of a history whose files have bytes are lists of bytes of the block's length.
+pub fn blocks_are_bytes()
+    ensures { (shape : Shape) (history : List Entry) (s r : ℕ) → IsInRange shape → StoresBytes history →
+        HasStripe (table_of shape history) s → r < shape.n → IsBlock shape (block (table_of shape history) s r) }
+{}
+
+/// The block of a stripe in a front's table is that of every longer front's.
+pub fn blocks_stay()
+    ensures { (shape : Shape) (told : Bool) (xs more : List (List ℕ)) (s r : ℕ) (bytes : List ℕ) →
+        IsBlockIn shape told xs s r bytes → TellsLegal shape told (xs ++ more) →
+        IsBlockIn shape told (xs ++ more) s r bytes }
+{}
+
+/// A history is not legal where part 0 of a call stands behind another entry of that call.
+pub fn no_call_begins_twice()
+    ensures { (shape : Shape) (told : Bool) (before : List Entry) (e : Entry) →
+        e.line.part ≡ Part 0 → list_any (is_same_call e) before ≡ true → ¬ IsLegal shape told (before ++ e ∷ []) }
 {}
 
 /// A legal history stays legal when an entry that may follow is added at its end.
@@ -46,10 +81,11 @@ pub fn last_entry_may_follow()
 
 /// A stripe of the table stays, and its data are the same in every later table.
 pub fn stripes_stay()
-    ensures { (shape : Shape) (told : Bool) (history more : List Entry) (s : ℕ) →
-        IsLegal shape told (history ++ more) → IsSome (stripe_of (table_of shape history) s) →
-        IsSome (stripe_of (table_of shape (history ++ more)) s)
-        × (data_of (table_of shape (history ++ more)) s ≡ data_of (table_of shape history) s) }
+    ensures there { (shape : Shape) (told : Bool) (h more : List Entry) (s : ℕ) →
+        IsLegal shape told (h ++ more) → HasStripe (table_of shape h) s → HasStripe (table_of shape (h ++ more)) s }
+    ensures same_data { (shape : Shape) (told : Bool) (h more : List Entry) (s : ℕ) →
+        IsLegal shape told (h ++ more) → HasStripe (table_of shape h) s →
+        data_of (table_of shape (h ++ more)) s ≡ data_of (table_of shape h) s }
 {}
 
 /// A block is recoverable where k rows of its stripe are live.
@@ -69,23 +105,24 @@ pub fn lost_blocks_stay_lost()
 /// the same caller, as a read would that looks at the table before its session's earlier call ended.
 pub fn no_call_looks_before_its_callers_past()
     ensures { (shape : Shape) (told : Bool) (before : List Entry) (e x : Entry) (j : ℕ) →
-        e.line.part ≡ End → list_any (is_same_call e) before ≡ false →
-        slice_get before j ≡ Some x → is_same_caller e x ≡ true →
-        e.line.point ≤ j → ¬ IsLegal shape told (before ++ e ∷ []) }
+        LooksBefore before e x j → ¬ IsLegal shape told (before ++ e ∷ []) }
 {}
 
 /// A sound plan stays sound as its front grows to a longer legal history.
 pub fn sound_plans_stay()
-    ensures { (shape : Shape) (told : Bool) (front more : List (List ℕ)) (stripe target : ℕ)
-        (rows nodes ws : List ℕ) (bytes : List (List ℕ)) (len slice lanes : ℕ) →
-        IsSoundPlan shape told front stripe target rows nodes ws bytes len slice lanes →
-        TellsLegal shape told (front ++ more) →
-        IsSoundPlan shape told (front ++ more) stripe target rows nodes ws bytes len slice lanes }
+    ensures { (shape : Shape) (told : Bool) (front more : List (List ℕ)) (plan : Plan) →
+        IsSoundPlan shape told front plan → TellsLegal shape told (front ++ more) →
+        IsSoundPlan shape told (front ++ more) plan }
 {}
 
-/// No two different lines at one position have one text: the printed journal is that of one journal.
-pub fn journal_lines_differ()
-    ensures { (at : ℕ) (a b : Line) → at < 2 ^ 32 →
-        All (λ n. n < 2 ^ 32) (line_numbers a) → All (λ n. n < 2 ^ 32) (line_numbers b) →
-        journal_line at a ≡ journal_line at b → a ≡ b }
+/// The entries of nodes stay counted when an entry is added at the end, if it is of a session, or counted itself.
+pub fn counted_entries_grow()
+    ensures { (shape : Shape) (history : List Entry) (e : Entry) → DropsCounted shape history →
+        (MAX_SESSIONS ≤ e.line.caller → IsCounted shape history e) → DropsCounted shape (history ++ e ∷ []) }
+{}
+
+/// One entry more spends one fault of a node at most: where it says that the node's store failed.
+pub fn each_entry_spends_its_fault()
+    ensures { (node : ℕ) (history : List Entry) (e : Entry) →
+        faults_spent node (history ++ e ∷ []) ≡ faults_spent node history + (if spends_fault node e then 1 else 0) }
 {}

@@ -1,28 +1,37 @@
 ghost use Rattle.std.specs.Prelude.{◌≡◌, ◌+◌, ◌^◌, ◌<◌, ◌≤◌, false, length, min, true, IfOk, IsSome, OnErr, OnOk};
 ghost use Rattle.ecp_code.specs.Stripes.{stripe_count, stripes};
-ghost use Rattle.ecp_history.specs.Changes.{CanChange, IsInRange};
+ghost use Rattle.ecp_history.specs.table.Changes.{CanChange};
 ghost use Rattle.ecp_history.specs.Calls.{Agrees, put_len};
-ghost use Rattle.ecp_history.specs.Entries.{deed_name, deed_node};
-ghost use Rattle.ecp_history.specs.Placement.{nodes_in};
-ghost use Rattle.ecp_history.specs.Steps.{after, joined, lost, stored, with_block};
-ghost use Rattle.ecp_history.specs.Tables.{block, block_count, file_of, inc_of, is_live, is_lost, is_up, live_on, live_rows, start, stripe_of, up_count, up_mask};
+ghost use Rattle.ecp_entry.specs.Entries.{deed_name, deed_node};
+ghost use Rattle.ecp_history.specs.table.Placement.{nodes_in};
+ghost use Rattle.ecp_history.specs.table.Steps.{after, given_up, joined, live_onto, lost, stored, with_block};
+ghost use Rattle.ecp_shape.specs.Range.{IsInRange};
+ghost use Rattle.ecp_history.specs.table.Tables.{block, block_count, file_of, inc_of, is_live, is_lost, is_up, live_on, live_rows, start, stripe_of, up_count, up_mask};
 
-use crate::act::Act;
-use crate::counts::{live_among, live_at, live_over, lost_at, up_among};
-use crate::deed::Deed;
-use crate::entry::Entry;
-use crate::file::File;
-use crate::name::Name;
-use crate::node::Node;
-use crate::placed_stripe::PlacedStripe;
-use crate::shape::Shape;
-use crate::storing::{nodes_of, put_all, stripes_of};
-use crate::stripe_list::{give_up_in, lose_all, restore_in, stripe_with};
+mod block_name;
+mod counts;
+mod file;
+mod node;
+mod placed_stripe;
+mod standing;
+mod storing;
+mod stripe_list;
+
+pub use block_name::BlockName;
+use counts::{LAST_COUNT, live_among, live_at, live_over, lost_at, up_among};
 use ecp_code::Code;
+use ecp_entry::{Act, Deed, Entry, Name};
+use ecp_shape::Shape;
 use ecp_store::{Block, NoMemory};
+pub use file::File;
+pub use node::Node;
+use placed_stripe::PlacedStripe;
+pub use standing::Standing;
 use std::alloc::Global;
 use std::collections::BTreeMap;
 use std::marker::Model;
+use storing::{nodes_of, put_all, stripes_of};
+use stripe_list::{give_up_in, lose_all, restore_in, stripe_with};
 
 /// The plain table: which files there are, where their blocks stand, and which nodes are up.
 #[derive(Debug, Drop)]
@@ -37,11 +46,11 @@ pub struct Table {
 }
 
 impl Model for Table {
-    ghost use Rattle.ecp_history.specs.Tables.{Shaped};
+    ghost use Rattle.ecp_history.specs.table.Tables.{Shaped};
 
     ghost Value = { Shaped };
 
-    ghost use Rattle.ecp_history.specs.Kept.{IsKept, shown};
+    ghost use Rattle.ecp_history.specs.table.Kept.{IsKept, shown};
 
     ghost view = { shown };
 
@@ -137,7 +146,16 @@ impl Table {
             Some(Deed::Put { name, len }) => {
                 self.store(*name, *len, entry.bytes.bytes(), first, up)
             }
-            _ => unreachable!(),
+            Some(
+                Deed::Read { .. }
+                | Deed::Sum { .. }
+                | Deed::Cat { .. }
+                | Deed::Lose { .. }
+                | Deed::Join { .. }
+                | Deed::Rebuild { .. }
+                | Deed::Stat { .. },
+            )
+            | None => unreachable!(),
         }
     }
 
@@ -204,7 +222,7 @@ impl Table {
     /// The block is live on the node.
     fn restore(&mut self, stripe: u32, row: u8, node: u8)
         ensures shape { self.new.shape ≡ self.old.shape }
-        ensures table { self.new.table ≡ with_block self.old.table stripe row (λ _. record { node = node; live = true }) }
+        ensures table { self.new.table ≡ with_block self.old.table stripe row (live_onto node) }
     {
         restore_in(&mut self.stripes, stripe, row, node);
     }
@@ -212,7 +230,7 @@ impl Table {
     /// The block is lost where it stands.
     fn give_up(&mut self, stripe: u32, row: u8)
         ensures shape { self.new.shape ≡ self.old.shape }
-        ensures table { self.new.table ≡ with_block self.old.table stripe row (λ x. record { node = x.node; live = false }) }
+        ensures table { self.new.table ≡ with_block self.old.table stripe row given_up }
     {
         give_up_in(&mut self.stripes, stripe, row);
     }
@@ -282,7 +300,7 @@ impl Table {
 
     /// How many blocks are live on a node. It stands still at `u32::MAX`.
     pub fn live_on(&self, node: u32) -> u32
-        ensures { result ≡ min (live_on self.now.table node) 4294967295 }
+        ensures { result ≡ min (live_on self.now.table node) LAST_COUNT }
     {
         live_over(&self.stripes, node)
     }

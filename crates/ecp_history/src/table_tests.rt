@@ -1,5 +1,5 @@
 ghost use Rattle.std.specs.Prelude.{◌≡◌, [], IsSome, IsTrue};
-ghost use Rattle.ecp_history.specs.Tables.{standing_of};
+ghost use Rattle.ecp_history.specs.table.Tables.{standing_of};
 
 use crate::{Act, Deed, Entry, File, Line, Name, Part, Shape, Table, Text};
 use ecp_store::{Block, NoMemory};
@@ -225,7 +225,7 @@ fn keeps_the_table_through_acts(rt: HostRuntime) -> Result<(), Fail> {
 #[test]
 fn finds_a_file_and_its_counts(rt: HostRuntime) -> Result<(), Fail> {
     let table = with_file(rt.alloc())?;
-    let name = Name::of(&Text::new(vec![in rt.alloc(); 0x61]?));
+    let name = Name::new(Text::new(vec![in rt.alloc(); 0x61]?).as_str());
     let file = File {
         name,
         len: 2,

@@ -1,6 +1,7 @@
 -- Cells in rows and columns, and byte sums of many terms.
 use Rattle.std.specs.Prelude.{ℕ, zero, suc, ◌<◌, ◌^◌, ◌==◌, if◌then◌else◌, List, [], slice_index, slice_index_or}
 use Rattle.ecp_field.specs.Field.{byte_sum, byte_product}
+use Rattle.ecp_inverse.specs.declared.rows.TheConstants.{MAX_SIZE}
 
 -- the entry of a list of rows in a row and a column
 abbrev pub entry : List (List ℕ) → ℕ → ℕ → ℕ
@@ -21,4 +22,4 @@ identity i j = if i == j then 1 else 0
 
 -- each cell is a byte
 abbrev pub AreByteCells : (ℕ → ℕ → ℕ) → Type 0
-AreByteCells a = (i j : ℕ) → j < 16 → a i j < 2 ^ 8
+AreByteCells a = (i j : ℕ) → j < MAX_SIZE → a i j < 2 ^ 8

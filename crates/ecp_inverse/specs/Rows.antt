@@ -2,15 +2,16 @@
 use Rattle.std.specs.Prelude.{◌≡◌, ◌≢◌, ℕ, ◌<◌, ◌^◌, List}
 use Rattle.ecp_field.specs.Field.{byte_sum, byte_product}
 use Rattle.ecp_inverse.specs.Cells.{entry, total, identity}
+use Rattle.ecp_inverse.specs.declared.rows.TheConstants.{MAX_SIZE}
 
 -- c times one row is added to another
 pub record AddsMultiple (old new : List (List ℕ)) (target c source : ℕ) : Type 0 where
-  pub target_row : (j : ℕ) → j < 16 → entry new target j ≡ byte_sum (entry old target j) (byte_product c (entry old source j))
+  pub target_row : (j : ℕ) → j < MAX_SIZE → entry new target j ≡ byte_sum (entry old target j) (byte_product c (entry old source j))
   pub other_rows : (i j : ℕ) → i ≢ target → entry new i j ≡ entry old i j
 
 -- a row is multiplied by c
 pub record Scales (old new : List (List ℕ)) (row c : ℕ) : Type 0 where
-  pub scaled_row : (j : ℕ) → j < 16 → entry new row j ≡ byte_product c (entry old row j)
+  pub scaled_row : (j : ℕ) → j < MAX_SIZE → entry new row j ≡ byte_product c (entry old row j)
   pub other_rows : (i j : ℕ) → i ≢ row → entry new i j ≡ entry old i j
 
 -- the sum of the products of a row's first n cells with y

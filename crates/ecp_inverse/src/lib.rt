@@ -14,4 +14,5 @@ mod tests;
 
 pub use inversion::invert;
 pub use matrix::Matrix;
+pub use rows::MAX_SIZE;
 pub use singular::Singular;

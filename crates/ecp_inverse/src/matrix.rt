@@ -2,11 +2,12 @@
 ghost use Rattle.std.specs.Prelude.{◌≡◌, ◌≢◌, ℕ, ◌⊎◌, ◌<◌, ◌≤◌, ◌^◌};
 ghost use Rattle.ecp_inverse.specs.Cells.{entry, AreByteCells};
 ghost use Rattle.ecp_inverse.specs.Matrix.{Square, cell};
+ghost use Rattle.ecp_inverse.specs.declared.rows.TheConstants.{MAX_SIZE};
 
-use crate::rows::Rows;
+use crate::rows::{MAX_SIZE, Rows};
 use std::marker::Model;
 
-/// A square matrix of bytes, with 1 to 16 rows and as many columns.
+/// A square matrix of bytes, with 1 to [`MAX_SIZE`] rows and as many columns.
 #[derive(Drop)]
 pub struct Matrix {
     size: u8,
@@ -18,26 +19,26 @@ impl Model for Matrix {
 
     ghost view = { λ m. record { size = m.size; rows = m.cells } };
 
-    ghost invariant = { λ m. (1 ≤ m.size) × (m.size ≤ 16) × AreByteCells (entry m.cells) };
+    ghost invariant = { λ m. (1 ≤ m.size) × (m.size ≤ MAX_SIZE) × AreByteCells (entry m.cells) };
 }
 
 impl Matrix {
     /// The matrix of this size whose cells are all 0.
     pub fn zero(size: u8) -> Matrix
-        requires { (1 ≤ size) × (size ≤ 16) }
+        requires { (1 ≤ size) × (size ≤ MAX_SIZE) }
         ensures size { result.size ≡ size }
         ensures cells { (i j : ℕ) → cell result i j ≡ 0 }
     {
         Matrix {
             size,
-            cells: [[0; 16]; 16],
+            cells: [[0; MAX_SIZE]; MAX_SIZE],
         }
     }
 
     /// The number of rows, and of columns.
     pub fn size(&self) -> u8
         ensures value { result ≡ self.now.size }
-        ensures range { (1 ≤ result) × (result ≤ 16) }
+        ensures range { (1 ≤ result) × (result ≤ MAX_SIZE) }
     {
         self.size
     }
@@ -69,7 +70,7 @@ impl Matrix {
     }
 
     pub(crate) fn of(size: u8, cells: Rows) -> Matrix
-        requires { (1 ≤ size) × (size ≤ 16) × AreByteCells (entry cells) }
+        requires { (1 ≤ size) × (size ≤ MAX_SIZE) × AreByteCells (entry cells) }
         ensures size { result.size ≡ size }
         ensures rows { result.rows ≡ cells }
     {

@@ -2,9 +2,10 @@
 ghost use Rattle.std.specs.Prelude.{◌≡◌, ◌≢◌, ℕ, ◌+◌, ◌<◌, ◌≤◌, IfSome, IfNone, slice_index};
 ghost use Rattle.ecp_inverse.specs.Cells.{entry, identity, AreByteCells};
 ghost use Rattle.ecp_inverse.specs.Rows.{AddsMultiple, Scales, SameSolutions, IsReduced};
+ghost use Rattle.ecp_inverse.specs.declared.rows.TheConstants.{MAX_SIZE};
 
 use crate::matrix::Matrix;
-use crate::rows::{LIMIT, Row, Rows, add_multiple, identity_rows, scale};
+use crate::rows::{MAX_SIZE, Row, Rows, add_multiple, identity_rows, scale};
 use ecp_field::inv;
 
 /// As many equations as `size`, one a row: the left rows times y are the right rows times z.
@@ -13,7 +14,7 @@ pub(crate) struct System {
     pub(crate) size: usize,
     pub(crate) left: Rows,
     pub(crate) right: Rows,
-    ghost in_size: { size ≤ 16 },
+    ghost in_size: { size ≤ MAX_SIZE },
     ghost left_bytes: { AreByteCells (entry left) },
     ghost right_bytes: { AreByteCells (entry right) },
 }
@@ -23,7 +24,7 @@ impl System {
     pub(crate) fn new(m: &Matrix) -> System
         ensures size { result.size ≡ m.now.size }
         ensures left { result.left ≡ m.now.rows }
-        ensures right { (i j : ℕ) → i < 16 → j < 16 → entry result.right i j ≡ identity i j }
+        ensures right { (i j : ℕ) → i < MAX_SIZE → j < MAX_SIZE → entry result.right i j ≡ identity i j }
     {
         System {
             size: m.size() as usize,
@@ -135,7 +136,7 @@ impl System {
         ensures one { slice_index result col ≡ 1 }
         ensures past { (i : ℕ) → col < i → slice_index result i ≡ 0 }
     {
-        let mut column = [0; LIMIT];
+        let mut column = [0; MAX_SIZE];
         for i in 0..col {
             column[i] = self.left[i][col];
         }

@@ -1,9 +1,15 @@
-use Rattle.std.proofs.Common.{ℕ, List, ◌⊎◌, inl, inr}
-use Rattle.ecp_command.specs.Accepted.{Content, IsAccepted}
+-- What is promised for the commands that are wanted holds for those that words ask for.
+use Rattle.std.proofs.Common.{ℕ, List, inl, inr}
 use Rattle.ecp_command.specs.Words.{IsSpelled}
-use Rattle.ecp_command.specs.declared.commands.Command.{Command}
-use Rattle.ecp_command.specs.declared.commands.Command.TheVariants.{Run, RunDir, Mend, Check, Soak}
-use Rattle.ecp_service.specs.Answers.{Asks, Takes}
+use Rattle.ecp_command.specs.declared.words.commands.Command.{Command}
+use Rattle.ecp_command.specs.declared.words.commands.Command.TheVariants.{Run, RunDir, Mend, Check, Soak}
+use Rattle.ecp_service.specs.Answers.{Asks, Wanted, NothingWanted, WantsScript}
+use Rattle.ecp_service.specs.Ends.{Ends, Answers, IsCutShort, IsTold, IsTakenFrom}
+use Rattle.ecp_service.specs.Stops.{IsReason}
+use Rattle.ecp_service.specs.declared.stop.Stop.{Stop}
+use Rattle.ecp_service.specs.declared.stop.Stop.TheVariants.{Usage, Refused, ReadFault, NoMemory, TooLong}
+use Rattle.ecp_store.specs.declared.sink.Sink as sink
+use Rattle.ecp_store.specs.declared.source.Source as source
 
 -- what is asked for is spelled
 pub spelled_asked : (words : List (List ℕ)) (asked : Command) → Asks words asked → IsSpelled words asked
@@ -17,15 +23,34 @@ spelled_asked words (Soak seed) asks = absurd asks
 pub one_spelled : (words : List (List ℕ)) (k n t : ℕ) → IsSpelled words Run → IsSpelled words (Mend k n t) → ⊥
 one_spelled words k n t is_run is_mend = let e = is_mend.1 in absurd (cc)
 
--- a run that is asked for takes accepted inputs
-pub takes_accepted : (words : List (List ℕ)) (asked : Command) (bytes : List ℕ) → IsSpelled words Run → Asks words asked → Takes asked bytes → (content : Content) × IsAccepted bytes content
-takes_accepted words Run bytes is asks takes = takes
-takes_accepted words (Mend k n t) bytes is asks takes = absurd (one_spelled words k n t is asks)
-takes_accepted words (RunDir path) bytes is asks takes = absurd asks
-takes_accepted words Check bytes is asks takes = absurd asks
-takes_accepted words (Soak seed) bytes is asks takes = absurd asks
+module _ {R W E : Type 0} (s : source.Ghosts R) (w : sink.Ghosts W) (e : sink.Ghosts E) (wanted asked : Wanted) where
+  -- what is told, where no more is asked for than is wanted
+  pub told_asked : (old new : R) (status : ℕ) → (NothingWanted asked → NothingWanted wanted) → (WantsScript asked → WantsScript wanted)
+      → IsTold s wanted old new status → IsTold s asked old new status
+  told_asked old new status nothing script told = record {
+    usage = λ none. told.usage (nothing none);
+    too_long = told.too_long;
+    refused = λ asks. told.refused (script asks);
+  }
 
--- of two cases, the one that is left
-pub left_of_two : {A B : Type 0} → A ⊎ B → (B → ⊥) → A
-left_of_two (inl a) other = a
-left_of_two (inr b) other = absurd (other b)
+  pub taken_asked : (old new : R) → (NothingWanted asked → NothingWanted wanted) → IsTakenFrom s wanted old new → IsTakenFrom s asked old new
+  taken_asked old new nothing taken = record { few = taken.few; untouched = λ none. taken.untouched (nothing none) }
+
+  reason_asked : (old new : R) (stop : Stop) → (NothingWanted wanted → NothingWanted asked) → (WantsScript wanted → WantsScript asked)
+      → IsReason s wanted old new stop → IsReason s asked old new stop
+  reason_asked old new Usage nothing script is = nothing is
+  reason_asked old new (Refused r) nothing script is = (script is.0, is.1)
+  reason_asked old new ReadFault nothing script is = is
+  reason_asked old new NoMemory nothing script is = is
+  reason_asked old new TooLong nothing script is = is
+
+  answers_asked : (old new : R) (text : List ℕ) → ((c : Command) → wanted c → asked c) → Answers s wanted old new text → Answers s asked old new text
+  answers_asked old new text more a = record { bytes = a.bytes; read = a.read; command = a.command; asked = more a.command a.asked; answer = a.answer }
+
+  -- what is cut short, where no less is asked for than is wanted
+  pub cut_asked : (old new : Ends R W E) → ((c : Command) → wanted c → asked c) → (NothingWanted wanted → NothingWanted asked)
+      → IsCutShort s w e wanted old new → IsCutShort s w e asked old new
+  cut_asked old new more nothing (inl cut) =
+      inl (record { text = cut.text; answer = answers_asked old.input new.input cut.text more cut.answer; got = cut.got; quiet = cut.quiet })
+  cut_asked old new more nothing (inr cut) =
+      inr (record { stop = cut.stop; reason = reason_asked old.input new.input cut.stop nothing (more Run) cut.reason; said = cut.said; nothing = cut.nothing })

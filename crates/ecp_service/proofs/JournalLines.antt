@@ -1,8 +1,8 @@
 use Rattle.std.proofs.Common.{◌≡◌, ℕ, zero, suc, ◌+◌, List, [], ◌∷◌, ◌++◌, drop, Option, Some, ap, sym, ◌∙◌, arith}
 use Rattle.std.specs.Prelude.{slice_get, unwrap_or}
-use Rattle.ecp_history.specs.declared.line.Line.{Line}
-use Rattle.ecp_history.specs.JournalText.{journal_line}
-use Rattle.ecp_service.specs.PlainText.{lines_from}
+use Rattle.ecp_entry.specs.declared.line.Line.{Line}
+use Rattle.ecp_entry.specs.JournalText.{journal_line}
+use Rattle.ecp_service.specs.RunLines.{lines_from}
 
 -- the list from a place on begins with what stands there
 pub drop_get : {X : Type 0} (xs : List X) (i : ℕ) (x : X) → slice_get xs i ≡ Some x → drop i xs ≡ x ∷ drop (i + 1) xs

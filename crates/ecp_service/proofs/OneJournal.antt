@@ -10,21 +10,21 @@ use Rattle.std.proofs.lemmas.List.{map_push, length-map, append_cancel_right}
 use Rattle.std.proofs.lemmas.List.Folds.{list_any-append}
 use Rattle.std.proofs.lemmas.List.Elements.{recursion_from_All, All-from_recursion}
 use Rattle.hex.specs.Hex.{encode_lower}
-use Rattle.ecp_command.specs.Accepted.{Content}
-use Rattle.ecp_command.specs.Calls.{SessionCalls}
-use Rattle.ecp_command.specs.declared.planned.Planned.{Planned}
-use Rattle.ecp_history.specs.declared.entry.Entry.{Entry}
-use Rattle.ecp_history.specs.declared.line.Line.{Line}
-use Rattle.ecp_history.specs.declared.reply.Reply.{Reply}
-use Rattle.ecp_history.specs.declared.reply.Reply.TheVariants as reply
-use Rattle.ecp_history.specs.declared.shape.Shape.{Shape}
-use Rattle.ecp_history.specs.JournalText.{line_words, journal_line, line_numbers}
-use Rattle.ecp_history.specs.ReplyText.{reply_words, reply_line}
-use Rattle.ecp_history.proofs.LineLaws.{rest_of, IsGraphic, graphic-no_byte, decimal-graphic, Small, wide, line_words-graphic, journal_line-injective}
+use Rattle.ecp_command.specs.Input.Accepted.{Content}
+use Rattle.ecp_command.specs.Input.Calls.{SessionCalls}
+use Rattle.ecp_command.specs.declared.input.planned.Planned.{Planned}
+use Rattle.ecp_entry.specs.declared.entry.Entry.{Entry}
+use Rattle.ecp_entry.specs.declared.line.Line.{Line}
+use Rattle.ecp_entry.specs.declared.reply.Reply.{Reply}
+use Rattle.ecp_entry.specs.declared.reply.Reply.TheVariants as reply
+use Rattle.ecp_shape.specs.declared.shape.Shape.{Shape}
+use Rattle.ecp_entry.specs.JournalText.{line_words, journal_line, line_numbers}
+use Rattle.ecp_entry.specs.ReplyText.{reply_words, reply_line}
+use Rattle.ecp_entry.proofs.LineLaws.{rest_of, IsGraphic, graphic-no_byte, decimal-graphic, Small, wide, line_words-graphic, journal_line-injective}
 use Rattle.ecp_service.specs.Past.{entry_for, past_behind, past}
 use Rattle.ecp_service.specs.Printed.{ArePrintable}
 use Rattle.ecp_service.specs.RunText.{ending_reply, reply_to, session_text, journal_text, run_text}
-use Rattle.ecp_service.specs.Serves.{ends}
+use Rattle.ecp_history.specs.Spans.{ends}
 use Rattle.ecp_service.proofs.TextLines.{lines_of, NoEnd, lines_of-one, lines_of-append, IsWhole, whole_none, whole_line, whole_append, whole_each, behind_last, behind_last-is}
 
 -- ---- words have no line end

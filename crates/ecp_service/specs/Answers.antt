@@ -1,18 +1,17 @@
 -- What a command answers on its output.
-use Rattle.std.specs.Prelude.{◌≡◌, ℕ, Bool, true, false, IsTrue, List, length}
-use Rattle.std.specs.List.{list_any}
+use Rattle.std.specs.Prelude.{◌≡◌, ℕ, true, List, length, ⊤}
 use Rattle.ecp_code.specs.Rows.{row}
 use Rattle.ecp_code.specs.Stripes.{blocks, stripe_len}
-use Rattle.ecp_command.specs.Accepted.{Content, IsAccepted}
+use Rattle.ecp_command.specs.Input.Accepted.{Content, IsAccepted}
 use Rattle.ecp_command.specs.Words.{IsSpelled}
-use Rattle.ecp_command.specs.declared.commands.Command.{Command}
-use Rattle.ecp_command.specs.declared.commands.Command.TheVariants.{Mend, Run}
-use Rattle.ecp_history.specs.declared.entry.Entry.{Entry}
-use Rattle.ecp_history.specs.declared.line.Line.{Line}
-use Rattle.ecp_history.specs.declared.shape.Shape.{Shape}
+use Rattle.ecp_command.specs.declared.words.commands.Command.{Command}
+use Rattle.ecp_command.specs.declared.words.commands.Command.TheVariants.{Run, RunDir, Mend, Check, Soak}
+use Rattle.ecp_entry.specs.declared.entry.Entry.{Entry}
+use Rattle.ecp_entry.specs.declared.line.Line.{Line}
+use Rattle.ecp_shape.specs.declared.shape.Shape.{Shape}
+use Rattle.ecp_history.specs.Counted.{faults_spent}
 use Rattle.ecp_history.specs.Legal.{IsLegal}
-use Rattle.ecp_service.specs.Asked.{shape_of}
-use Rattle.ecp_service.specs.Faults.{spends_fault}
+use Rattle.ecp_command.specs.Input.Settings.{shape_of}
 use Rattle.ecp_service.specs.Past.{past}
 use Rattle.ecp_service.specs.Printed.{ArePrintable}
 use Rattle.ecp_service.specs.RunText.{run_text}
@@ -22,11 +21,11 @@ use Rattle.ecp_service.specs.Serves.{Serves}
 abbrev pub rebuilt : ℕ → ℕ → List ℕ → List ℕ
 rebuilt k t bytes = row (blocks k (stripe_len k (length bytes)) bytes) t
 
--- a legal history that serves the input, in which no entry tells of a failed store
+-- a legal history that serves the input, in which no entry spends a fault of a store
 pub record IsHistoryOf (shape : Shape) (content : Content) (history : List Entry) : Type 0 where
   pub legal : IsLegal shape true history
   pub serves : Serves shape content history
-  pub faultless : list_any (λ e. spends_fault e.line.act) history ≡ false
+  pub faultless : (node : ℕ) → faults_spent node history ≡ 0
 
 -- the bytes are an accepted input, and the text is that of the history which it has with the lines of some journal
 pub record IsRunOf (bytes text : List ℕ) : Type 0 where
@@ -41,21 +40,38 @@ pub record IsRunOf (bytes text : List ℕ) : Type 0 where
 abbrev pub IsAnswer : Command → List ℕ → List ℕ → Type 0
 IsAnswer (Mend k n t) bytes text = text ≡ rebuilt k t bytes
 IsAnswer Run bytes text = IsRunOf bytes text
-IsAnswer _ bytes text = ⊥
+IsAnswer (RunDir path) bytes text = ⊥
+IsAnswer Check bytes text = ⊥
+IsAnswer (Soak seed) bytes text = ⊥
 
--- the text is the answer of the command to the input that a source gave: where it tells, to what it had left before
-pub record AnswersSource (command : Command) (tells : Bool) (before text : List ℕ) : Type 0 where
-  pub bytes : List ℕ
-  pub given : IsTrue tells → bytes ≡ before
-  pub answer : IsAnswer command bytes text
+-- the commands that are wanted: by the words of a command line, or one alone
+abbrev pub Wanted : Type 1
+Wanted = Command → Type 0
+
+-- this command alone is wanted
+abbrev pub Only : Command → Wanted
+Only command other = other ≡ command
 
 -- the words ask for a command that the program serves
-abbrev pub Asks : List (List ℕ) → Command → Type 0
+abbrev pub Asks : List (List ℕ) → Wanted
 Asks words (Mend k n t) = IsSpelled words (Mend k n t)
 Asks words Run = IsSpelled words Run
-Asks words _ = ⊥
+Asks words (RunDir path) = ⊥
+Asks words Check = ⊥
+Asks words (Soak seed) = ⊥
+
+-- no command is wanted
+abbrev pub NothingWanted : Wanted → Type 0
+NothingWanted wanted = (command : Command) → ¬ wanted command
+
+-- a command is wanted that reads a script
+abbrev pub WantsScript : Wanted → Type 0
+WantsScript wanted = wanted Run
 
 -- the command takes these bytes as its input: `run` an accepted input, `mend` any
 abbrev pub Takes : Command → List ℕ → Type 0
 Takes Run bytes = (content : Content) × IsAccepted bytes content
-Takes _ bytes = Unit {0}
+Takes (Mend k n t) bytes = ⊤
+Takes (RunDir path) bytes = ⊤
+Takes Check bytes = ⊤
+Takes (Soak seed) bytes = ⊤

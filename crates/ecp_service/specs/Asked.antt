@@ -2,18 +2,13 @@
 use Rattle.std.specs.Prelude.{ℕ, ◌==◌, List, [], length, find, slice_get, Option}
 use Rattle.std.specs.Option.{option_map_or}
 use Rattle.ecp_code.specs.Stripes.{stripe_count}
-use Rattle.ecp_command.specs.Accepted.{Content}
-use Rattle.ecp_command.specs.declared.call.Call.{Call}
-use Rattle.ecp_command.specs.declared.call.Call.TheVariants.{Put, Read, Sum, Cat, Lose, Join, Rebuild, Stat}
-use Rattle.ecp_command.specs.declared.head.Head.{Head}
-use Rattle.ecp_command.specs.declared.planned.Planned.{Planned}
-use Rattle.ecp_history.specs.declared.deed.Deed.{Deed}
-use Rattle.ecp_history.specs.declared.deed.Deed.TheVariants as deed
-use Rattle.ecp_history.specs.declared.shape.Shape.{Shape}
-
--- the sizes that a head states
-abbrev pub shape_of : Head → Shape
-shape_of head = record { n = head.n; k = head.k; nodes = head.nodes; block = head.block }
+use Rattle.ecp_command.specs.Input.Accepted.{Content}
+use Rattle.ecp_command.specs.declared.input.call.Call.{Call}
+use Rattle.ecp_command.specs.declared.input.call.Call.TheVariants.{Put, Read, Sum, Cat, Lose, Join, Rebuild, Stat}
+use Rattle.ecp_command.specs.declared.input.planned.Planned.{Planned}
+use Rattle.ecp_entry.specs.declared.deed.Deed.{Deed}
+use Rattle.ecp_entry.specs.declared.deed.Deed.TheVariants as deed
+use Rattle.ecp_shape.specs.declared.shape.Shape.{Shape}
 
 -- what a call asks for, without the bytes of a put
 abbrev pub deed_of : Call → Deed

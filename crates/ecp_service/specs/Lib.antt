@@ -1,12 +1,12 @@
 pub mod Answers
 pub mod Asked
-pub mod Faults
+pub mod Ends
 pub mod Past
-pub mod PlainRun
-pub mod PlainText
+pub mod plain
 pub mod Printed
+pub mod RunLines
 pub mod RunText
 pub mod Serves
-pub mod Settled
 pub mod Sinks
+pub mod Sources
 pub mod Stops

@@ -1,17 +1,17 @@
 -- The history that an input and the lines of a journal make.
 use Rattle.std.specs.Prelude.{ℕ, List, [], ◌∷◌, ◌++◌, Option, option_map}
 use Rattle.std.specs.Option.{option_map_or}
-use Rattle.ecp_command.specs.Accepted.{Content}
-use Rattle.ecp_history.specs.declared.act.Act.{Act}
-use Rattle.ecp_history.specs.declared.act.Act.TheVariants.{Stored, Data}
-use Rattle.ecp_history.specs.declared.deed.Deed.{Deed}
-use Rattle.ecp_history.specs.declared.entry.Entry.{Entry}
-use Rattle.ecp_history.specs.declared.line.Line.{Line}
-use Rattle.ecp_history.specs.declared.shape.Shape.{Shape}
-use Rattle.ecp_history.specs.Entries.{deed_name}
+use Rattle.ecp_command.specs.Input.Accepted.{Content}
+use Rattle.ecp_entry.specs.declared.act.Act.{Act}
+use Rattle.ecp_entry.specs.declared.act.Act.TheVariants.{Stored, Data}
+use Rattle.ecp_entry.specs.declared.deed.Deed.{Deed}
+use Rattle.ecp_entry.specs.declared.entry.Entry.{Entry}
+use Rattle.ecp_entry.specs.declared.line.Line.{Line}
+use Rattle.ecp_shape.specs.declared.shape.Shape.{Shape}
+use Rattle.ecp_entry.specs.Entries.{deed_name}
 use Rattle.ecp_history.specs.Named.{deed_block}
-use Rattle.ecp_history.specs.Steps.{table_at}
-use Rattle.ecp_history.specs.Tables.{PlainTable, block}
+use Rattle.ecp_history.specs.table.Steps.{table_at}
+use Rattle.ecp_history.specs.table.Tables.{PlainTable, block}
 use Rattle.ecp_service.specs.Asked.{deed_of, put_bytes, call_at}
 
 -- what the call of a line asks for

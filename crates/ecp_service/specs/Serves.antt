@@ -1,41 +1,18 @@
 -- When a history serves an input: it has just the calls of the input, each once and in its session's order.
-use Rattle.std.specs.Prelude.{◌≡◌, ℕ, ◌+◌, ◌*◌, ◌<◌, ◌≤◌, ◌==◌, nat_lt, Bool, true, false, ◌&&◌, if◌then◌else◌, List, take, drop, count_by, sum_by, find, position, slice_get, Some, IsSomeAnd, is_some, Contains}
-use Rattle.std.specs.List.{enumerate_from}
+use Rattle.std.specs.Prelude.{◌≡◌, ℕ, ◌+◌, ◌<◌, nat_lt, true, if◌then◌else◌, List, map, count_by, find, slice_get, Some, IsSomeAnd, Contains}
+use Rattle.std.specs.List.{enumerate_from, flat_map}
 use Rattle.std.specs.Option.{option_map_or}
-use Rattle.ecp_command.specs.Accepted.{Content}
-use Rattle.ecp_command.specs.Calls.{SessionCalls}
-use Rattle.ecp_command.specs.declared.planned.Planned.{Planned}
-use Rattle.ecp_history.specs.declared.act.Act.{Act}
-use Rattle.ecp_history.specs.declared.act.Act.TheVariants.{Stored, Whole, Broken, Opened, Rebuilt}
-use Rattle.ecp_history.specs.declared.entry.Entry.{Entry}
-use Rattle.ecp_history.specs.declared.part.Part.{Part}
-use Rattle.ecp_history.specs.declared.part.Part.TheVariants as part
-use Rattle.ecp_history.specs.declared.shape.Shape.{Shape}
-use Rattle.ecp_history.specs.Entries.{loss_of, is_numbered}
-use Rattle.ecp_history.specs.Follows.{follows, is_same_caller}
+use Rattle.ecp_command.specs.Input.Accepted.{Content}
+use Rattle.ecp_command.specs.declared.input.planned.Planned.{Planned}
+use Rattle.ecp_entry.specs.declared.act.Act.{Act}
+use Rattle.ecp_entry.specs.declared.act.Act.TheVariants.{Whole, Broken, Opened, Rebuilt}
+use Rattle.ecp_entry.specs.declared.entry.Entry.{Entry}
+use Rattle.ecp_history.specs.Counted.{DropsCounted}
+use Rattle.ecp_history.specs.Files.{is_stored, Storing, StripesBounded}
+use Rattle.ecp_history.specs.Spans.{ends, is_part}
 use Rattle.ecp_service.specs.Asked.{deed_of, put_bytes, put_stripes, call_at}
-
--- whether an act stores a file
-abbrev pub is_stored : Act → Bool
-is_stored (Stored first stripes up) = true
-is_stored _ = false
-
--- whether a part is the end
-abbrev pub is_end : Part → Bool
-is_end part.End = true
-is_end (part.Part j) = false
-
--- whether an entry is of this call
-abbrev pub is_of : ℕ → ℕ → Entry → Bool
-is_of caller call e = (e.line.caller == caller) && (e.line.call == call)
-
--- whether an entry ends this call
-abbrev pub ends : ℕ → ℕ → Entry → Bool
-ends caller call e = is_of caller call e && is_end e.line.part
-
--- whether an entry is this part of this call
-abbrev pub is_part : ℕ → ℕ → ℕ → Entry → Bool
-is_part caller call j e = is_of caller call e && is_numbered j e.line.part
+use Rattle.ecp_shape.specs.declared.limits.TheConstants.{MAX_SESSIONS}
+use Rattle.ecp_shape.specs.declared.shape.Shape.{Shape}
 
 -- an entry has the deed of its call, and the bytes of its put where it stores a file
 pub record IsOfCall (e : Entry) (planned : Planned) : Type 0 where
@@ -45,7 +22,7 @@ pub record IsOfCall (e : Entry) (planned : Planned) : Type 0 where
 -- each entry of a session is of a call of the input
 abbrev pub NamesCalls : Content → List Entry → Type 0
 NamesCalls input history =
-    (i : ℕ) (e : Entry) → slice_get history i ≡ Some e → e.line.caller < 8 → IsSomeAnd (call_at input e.line.caller e.line.call) (IsOfCall e)
+    (i : ℕ) (e : Entry) → slice_get history i ≡ Some e → e.line.caller < MAX_SESSIONS → IsSomeAnd (call_at input e.line.caller e.line.call) (IsOfCall e)
 
 -- how many blocks an act says that the file has which it opens
 abbrev pub opened_count : Act → ℕ
@@ -78,7 +55,7 @@ EachComplete input history =
 abbrev pub AreInOrder : List Entry → Type 0
 AreInOrder history =
     (i j : ℕ) (d e : Entry) → slice_get history i ≡ Some d → slice_get history j ≡ Some e →
-    d.line.caller < 8 → d.line.caller ≡ e.line.caller → d.line.call < e.line.call → i < j
+    d.line.caller < MAX_SESSIONS → d.line.caller ≡ e.line.caller → d.line.call < e.line.call → i < j
 
 -- the phase of the call of an entry
 abbrev pub phase_of : Content → Entry → ℕ
@@ -88,37 +65,12 @@ phase_of input e = option_map_or (λ p. p.phase) (call_at input e.line.caller e.
 abbrev pub PhasesApart : Content → List Entry → Type 0
 PhasesApart input history =
     (i j : ℕ) (d e : Entry) → slice_get history i ≡ Some d → slice_get history j ≡ Some e →
-    d.line.caller < 8 → e.line.caller < 8 → phase_of input d < phase_of input e → i < e.line.point
+    d.line.caller < MAX_SESSIONS → e.line.caller < MAX_SESSIONS → phase_of input d < phase_of input e → i < e.line.point
 
--- an entry of no session is of a node, and the nodes number theirs from 0
-abbrev pub DropsCounted : Shape → List Entry → Type 0
-DropsCounted shape history =
-    (i : ℕ) (e : Entry) → slice_get history i ≡ Some e → 8 ≤ e.line.caller →
-    (e.line.caller < 8 + shape.nodes) × (e.line.call ≡ count_by (is_same_caller e) (take i history))
-
--- how many losses stand from the entry that the one at position i must follow to that position
-abbrev pub losses_until : List Entry → ℕ → ℕ
-losses_until history i =
-    option_map_or (λ e. count_by (λ x. is_some (loss_of x)) (drop (follows (take i history) e) (take i history))) (slice_get history i) 0
-
--- how many losses stand behind the one end of a call and the entry that it follows
-abbrev pub losses_in : List Entry → ℕ → ℕ → ℕ
-losses_in history caller call = option_map_or (losses_until history) (position (ends caller call) history) 0
-
--- how many stripe numbers a session may use: those of each put, once and once more for each loss during it
-abbrev pub session_stripes : Shape → List Entry → SessionCalls → ℕ
-session_stripes shape history s =
-    sum_by (λ p. put_stripes shape p.1.call * (losses_in history s.number p.0 + 1)) (enumerate_from 0 s.calls)
-
--- the stripe numbers of an act are below this one
-abbrev pub StripesBelow : ℕ → Act → Type 0
-StripesBelow most (Stored first stripes up) = first + stripes ≤ most
-StripesBelow most _ = Unit {0}
-
--- stripe numbers are used up by puts alone
-abbrev pub StripesBounded : Shape → Content → List Entry → Type 0
-StripesBounded shape input history =
-    (e : Entry) → Contains history e → StripesBelow (sum_by (session_stripes shape history) input.sessions) e.line.act
+-- the puts of the input, each with the stripes that it may store
+abbrev pub puts_of : Shape → Content → List Storing
+puts_of shape input =
+    flat_map (λ s. map (λ p. record { caller = s.number; call = p.0; stripes = put_stripes shape p.1.call }) (enumerate_from 0 s.calls)) input.sessions
 
 -- the history serves the input
 pub record Serves (shape : Shape) (input : Content) (history : List Entry) : Type 0 where
@@ -127,4 +79,4 @@ pub record Serves (shape : Shape) (input : Content) (history : List Entry) : Typ
   pub ordered : AreInOrder history
   pub phases : PhasesApart input history
   pub drops : DropsCounted shape history
-  pub stripes : StripesBounded shape input history
+  pub stripes : StripesBounded (puts_of shape input) history

@@ -1,11 +1,15 @@
 -- Why a command stops with nothing on its output, and what it says then.
-use Rattle.std.specs.Prelude.{ℕ, ◌≡◌, ◌+◌, Bool, IsTrue, List, [], ◌++◌, length, codes}
-use Rattle.ecp_command.specs.Accepted.{MayRefuse}
-use Rattle.ecp_command.specs.Texts.{refusal_text}
-use Rattle.ecp_command.specs.declared.refusal.Refusal.{Refusal}
-use Rattle.ecp_command.specs.declared.refusal.Refusal.TheVariants as refusal
+use Rattle.std.specs.Prelude.{ℕ, ◌≡◌, IsTrue, List, [], ◌++◌, codes}
+use Rattle.ecp_command.specs.Input.Accepted.{MayRefuse}
+use Rattle.ecp_command.specs.Input.Refusals.{refusal_text}
+use Rattle.ecp_command.specs.declared.input.refusal.Refusal.{Refusal}
+use Rattle.ecp_command.specs.declared.input.refusal.Refusal.TheVariants as refusal
+use Rattle.ecp_service.specs.Answers.{Wanted, NothingWanted, WantsScript}
+use Rattle.ecp_service.specs.Sources.{GaveTooMuch}
 use Rattle.ecp_service.specs.declared.stop.Stop.{Stop}
 use Rattle.ecp_service.specs.declared.stop.Stop.TheVariants.{Usage, Refused, ReadFault, NoMemory, TooLong}
+use Rattle.ecp_store.specs.Faults.{Rose}
+use Rattle.ecp_store.specs.declared.source.Source.{Ghosts}
 
 -- the status for an input that is not accepted: 3 for its head and 4 for a line of its script
 abbrev pub refusal_code : Refusal → ℕ
@@ -34,19 +38,22 @@ abbrev pub stop_at : Refusal → Stop
 stop_at refusal.NoMemory = NoMemory
 stop_at r = Refused r
 
--- between what a source had left before and after lie 16 MiB and one byte more
-abbrev pub GaveTooMuch : List ℕ → List ℕ → Type 0
-GaveTooMuch before after = length before ≡ length after + 16777217
+-- where it tells, the source was read to its end, and what it had left is refused so
+abbrev pub GaveRefused : {R : Type 0} → Ghosts R → R → R → Refusal → Type 0
+GaveRefused g old new r = IsTrue g.tells → MayRefuse (g.left old) r × (g.left new ≡ [])
 
--- what a source had left before was read to its end, and is refused so
-abbrev pub GaveRefused : List ℕ → List ℕ → Refusal → Type 0
-GaveRefused before after r = MayRefuse before r × (after ≡ [])
+-- why a read stops before the end of the input: it failed, or gave too many bytes. Memory may run out at any time
+abbrev pub StopsRead : {R : Type 0} → Ghosts R → R → R → Stop → Type 0
+StopsRead g old new Usage = ⊥
+StopsRead g old new (Refused r) = ⊥
+StopsRead g old new ReadFault = Rose (g.faults old) (g.faults new)
+StopsRead g old new NoMemory = Unit {0}
+StopsRead g old new TooLong = GaveTooMuch g old new
 
--- the reason holds: no words that ask for a command; words that ask for a script, and an input that is none; a read that
--- failed; too many bytes. Memory may run out at any time. Of its bytes a source says something only where it tells
-abbrev pub IsReason : Type 0 → Type 0 → Type 0 → Bool → List ℕ → List ℕ → Stop → Type 0
-IsReason no_command script failed tells before after Usage = no_command
-IsReason no_command script failed tells before after (Refused r) = script × (IsTrue tells → GaveRefused before after r)
-IsReason no_command script failed tells before after ReadFault = failed
-IsReason no_command script failed tells before after NoMemory = Unit {0}
-IsReason no_command script failed tells before after TooLong = IsTrue tells → GaveTooMuch before after
+-- the reason holds: no command is wanted; one is that reads a script, and the input is refused; or the read stopped
+abbrev pub IsReason : {R : Type 0} → Ghosts R → Wanted → R → R → Stop → Type 0
+IsReason g wanted old new Usage = NothingWanted wanted
+IsReason g wanted old new (Refused r) = WantsScript wanted × GaveRefused g old new r
+IsReason g wanted old new ReadFault = StopsRead g old new ReadFault
+IsReason g wanted old new NoMemory = StopsRead g old new NoMemory
+IsReason g wanted old new TooLong = StopsRead g old new TooLong

@@ -1,6 +1,5 @@
-ghost use Rattle.std.specs.Prelude.{◌≡◌, ◌+◌, ◌-◌, ◌<◌, ◌≤◌, [], ◌++◌, length, IsTrue, IfOk, OnOk};
-ghost use Rattle.ecp_store.specs.Faults.{Rose, HasCause};
-ghost use Rattle.ecp_service.specs.Sinks.{GotAll, GotPart, Sends};
+ghost use Rattle.std.specs.Prelude.{◌≡◌, ◌≤◌, [], length, IfOk, OnOk};
+ghost use Rattle.ecp_service.specs.Sinks.{Delivers, Writes};
 
 use crate::writing::push_all;
 use ecp_store::{Failed, NoMemory, Sink};
@@ -8,7 +7,7 @@ use std::alloc::Global;
 use std::marker::Model;
 
 /// How many bytes are gathered before they go to a sink: 64 KiB.
-const ROOM: usize = 65_536;
+pub(crate) const ROOM: usize = 65_536;
 
 /// Bytes on their way to a sink. All its memory is taken at its making.
 #[derive(Debug, Drop)]
@@ -18,12 +17,13 @@ pub(crate) struct Buffer {
 
 impl Model for Buffer {
     ghost use Rattle.std.specs.Prelude.{ℕ, List, ◌≤◌, vec_len, vec_capacity};
+    ghost use Rattle.ecp_service.specs.declared.buffer.TheConstants.{ROOM};
 
     ghost Value = { List ℕ };
 
     ghost view = { λ buffer. buffer.bytes.items };
 
-    ghost invariant = { λ buffer. (65536 ≤ vec_capacity buffer.bytes) × (vec_len buffer.bytes ≤ 65536) };
+    ghost invariant = { λ buffer. (ROOM ≤ vec_capacity buffer.bytes) × (vec_len buffer.bytes ≤ ROOM) };
 }
 
 impl Buffer {
@@ -39,11 +39,7 @@ impl Buffer {
     /// Sends what is in it.
     fn send<W: Sink>(&mut self, sink: &mut W) -> Result<(), Failed>
         ensures empty { OnOk result (self.new ≡ []) }
-        ensures ok { IsTrue (W.tells sink.old) → OnOk result (W.appended sink.new ≡ W.appended sink.old ++ self.old) }
-        ensures sends { Sends (W.tells sink.old) (W.appended sink.old) self.old (W.appended sink.new) [] }
-        ensures tells { W.tells sink.new ≡ W.tells sink.old }
-        ensures never_falls { W.faults sink.old ≤ W.faults sink.new }
-        ensures cause { HasCause result (W.faults sink.old) (W.faults sink.new) }
+        ensures sends { Writes W.Sink result (sink.old, self.old) (sink.new, self.new) [] }
     {
         push_all(sink, &self.bytes)?;
         self.bytes.clear();
@@ -52,12 +48,8 @@ impl Buffer {
 
     /// Adds a text of at most 64 KiB at its end, and first sends what is in it where the text finds no room.
     pub(crate) fn write<W: Sink>(&mut self, sink: &mut W, text: &[u8]) -> Result<(), Failed>
-        requires { length text.now ≤ 65536 }
-        ensures ok { IsTrue (W.tells sink.old) → OnOk result (W.appended sink.new ++ self.new ≡ (W.appended sink.old ++ self.old) ++ text.now) }
-        ensures sends { Sends (W.tells sink.old) (W.appended sink.old) self.old (W.appended sink.new) text.now }
-        ensures tells { W.tells sink.new ≡ W.tells sink.old }
-        ensures never_falls { W.faults sink.old ≤ W.faults sink.new }
-        ensures cause { HasCause result (W.faults sink.old) (W.faults sink.new) }
+        requires { length text.now ≤ ROOM }
+        ensures { Writes W.Sink result (sink.old, self.old) (sink.new, self.new) text.now }
     {
         if text.len() > ROOM - self.bytes.len() {
             self.send(sink)?;
@@ -68,10 +60,7 @@ impl Buffer {
 
     /// Sends what is in it, and flushes the sink. After a failure the sink has a beginning of it.
     pub(crate) fn finish<W: Sink>(mut self, sink: &mut W) -> Result<(), Failed>
-        ensures ok { OnOk result (GotAll (W.tells sink.old) (W.appended sink.old) (W.appended sink.new) (W.flushed sink.new) self) }
-        ensures part { GotPart (W.tells sink.old) (W.appended sink.old) (W.appended sink.new) self }
-        ensures never_falls { W.faults sink.old ≤ W.faults sink.new }
-        ensures cause { HasCause result (W.faults sink.old) (W.faults sink.new) }
+        ensures { Delivers W.Sink result sink.old sink.new self }
     {
         self.send(sink)?;
         sink.flush()

@@ -1,9 +1,9 @@
 //! Laws of the definitions. Each is a function with an empty body, whose contract is the law.
 
 ghost use Rattle.std.specs.Prelude.{◌≡◌, List};
-ghost use Rattle.ecp_command.specs.Accepted.{Content};
-ghost use Rattle.ecp_history.specs.declared.line.Line.{Line};
-ghost use Rattle.ecp_history.specs.declared.shape.Shape.{Shape};
+ghost use Rattle.ecp_command.specs.Input.Accepted.{Content};
+ghost use Rattle.ecp_entry.specs.declared.line.Line.{Line};
+ghost use Rattle.ecp_shape.specs.declared.shape.Shape.{Shape};
 ghost use Rattle.ecp_service.specs.Past.{past};
 ghost use Rattle.ecp_service.specs.Printed.{ArePrintable};
 ghost use Rattle.ecp_service.specs.RunText.{run_text};

@@ -11,23 +11,19 @@
 
 mod answer;
 mod buffer;
-mod command_line;
+mod commands;
 mod journal_lines;
 pub mod laws;
-mod mending;
-mod plain_call;
-mod plain_run;
+mod plain;
 mod reading;
 mod reply_lines;
 mod run_lines;
-mod running;
 mod stop;
 mod writing;
 
 pub use answer::{DONE, WRITE_FAULT, refuse};
-pub use command_line::top;
-pub use mending::mend;
-pub use reading::LIMIT;
+pub use commands::mending::mend;
+pub use commands::top::top;
 pub use stop::Stop;
 
 #[cfg(test)]

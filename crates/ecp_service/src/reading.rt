@@ -1,28 +1,40 @@
 ghost use Rattle.std.specs.Prelude.{◌≡◌, ◌+◌, ◌<◌, ◌≤◌, [], ◌++◌, length, take, vec_len, IsTrue, IfOk, IfErr, OnOk};
-ghost use Rattle.ecp_store.specs.Faults.{Rose, HasCause};
-ghost use Rattle.ecp_service.specs.Stops.{GaveTooMuch, IsReason};
+ghost use Rattle.ecp_store.specs.Faults.{Counts};
+ghost use Rattle.ecp_service.specs.Sources.{IsRead, GaveTooMuch, GaveFew};
+ghost use Rattle.ecp_service.specs.Stops.{StopsRead};
 ghost use Rattle.ecp_service.specs.declared.stop.Stop.TheVariants.{TooLong};
 
 use crate::Stop;
+use ecp_shape::limits::MAX_INPUT;
 use ecp_store::{Failed, Source};
 use std::alloc::{AllocError, Global};
-
-/// How many bytes an input may have: 16 MiB.
-pub const LIMIT: usize = 16_777_216;
 
 /// How many bytes are asked for at once: 64 KiB.
 const PIECE: usize = 65_536;
 
-/// Makes the buffer twice as long, at least a piece and a byte and at most a byte more than an input
-/// may have. The byte beside the piece lets an input of `LIMIT` bytes end without a move for its end.
-fn grow(buf: &mut Vec<u8>) -> Result<(), AllocError>
-    requires { vec_len buf.old ≤ LIMIT }
-    ensures longer { OnOk result (vec_len buf.old < vec_len buf.new) }
-    ensures within { OnOk result (vec_len buf.new ≤ LIMIT + 1) }
+/// For how many bytes room is taken at first: 4 MiB, of which only what is filled costs anything.
+const FIRST_ROOM: usize = 4_194_304;
+
+/// Makes the buffer ready for one more piece behind its first `filled` bytes. Its room doubles, to at most a byte more
+/// than an input may have; bytes are made zero only as far as the piece goes.
+fn make_ready(buf: &mut Vec<u8>, filled: usize) -> Result<(), AllocError>
+    requires { (filled ≤ vec_len buf.old) × (filled ≤ MAX_INPUT) × (vec_len buf.old ≤ MAX_INPUT + 1) }
+    ensures longer { OnOk result (filled < vec_len buf.new) }
+    ensures within { OnOk result (vec_len buf.new ≤ MAX_INPUT + 1) }
     ensures kept { OnOk result (take (vec_len buf.old) buf.new.items ≡ buf.old.items) }
 {
-    let len = (2 * buf.len()).max(PIECE + 1).min(LIMIT + 1);
-    buf.reserve_exact(len - buf.len())?;
+    let len = (filled + PIECE).min(MAX_INPUT + 1);
+    if buf.len() >= len {
+        return Ok(());
+    }
+    if buf.capacity() < len {
+        let room = buf
+            .capacity()
+            .saturating_mul(2)
+            .max(FIRST_ROOM)
+            .min(MAX_INPUT + 1);
+        buf.reserve_exact(room.saturating_sub(buf.len()))?;
+    }
     buf.resize(len, 0)
 }
 
@@ -30,34 +42,28 @@ fn grow(buf: &mut Vec<u8>) -> Result<(), AllocError>
 fn pull_piece<R: Source>(input: &mut R, buf: &mut [u8], filled: usize) -> Result<usize, Failed>
     requires { filled < length buf.old }
     ensures within { IfOk result (λ m. filled + m ≤ length buf.new) }
-    ensures front { IsTrue (R.tells input.old) →
+    ensures front { IsTrue R.tells →
         IfOk result (λ m. take (filled + m) buf.new ++ R.left input.new ≡ take filled buf.old ++ R.left input.old) }
-    ensures end_only { IsTrue (R.tells input.old) → IfOk result (λ m. m ≡ 0 → R.left input.new ≡ []) }
-    ensures err { IsTrue (R.tells input.old) → IfErr result (λ _. R.left input.new ≡ R.left input.old) }
-    ensures tells { R.tells input.new ≡ R.tells input.old }
-    ensures never_falls { R.faults input.old ≤ R.faults input.new }
-    ensures cause { HasCause result (R.faults input.old) (R.faults input.new) }
+    ensures end_only { IsTrue R.tells → IfOk result (λ m. m ≡ 0 → R.left input.new ≡ []) }
+    ensures err { IsTrue R.tells → IfErr result (λ _. R.left input.new ≡ R.left input.old) }
+    ensures counts { Counts result (R.faults input.old) (R.faults input.new) }
 {
     let end = buf.len().min(filled + PIECE);
     input.pull(&mut buf[filled..end])
 }
 
 /// All that the input has left, read to its end. It keeps one buffer, which it never holds more than
-/// twice, and stops at the first fault and at the first byte past `LIMIT`.
-pub fn read_to_end<R: Source>(alloc: Global, input: &mut R) -> Result<Vec<u8>, Stop>
-    ensures all { IsTrue (R.tells input.old) →
-        IfOk result (λ bytes. (bytes.items ≡ R.left input.old) × (R.left input.new ≡ [])) }
-    ensures within { IfOk result (λ bytes. vec_len bytes ≤ LIMIT) }
-    ensures err { IfErr result (IsReason ⊥ ⊥ (Rose (R.faults input.old) (R.faults input.new)) (R.tells input.old) (R.left input.old) (R.left input.new)) }
-    ensures too_long { IsTrue (R.tells input.old) →
-        GaveTooMuch (R.left input.old) (R.left input.new) → result ≡ Err TooLong }
+/// twice, and stops at the first fault and at the first byte past [`MAX_INPUT`].
+pub(crate) fn read_to_end<R: Source>(alloc: Global, input: &mut R) -> Result<Vec<u8>, Stop>
+    ensures read { IfOk result (λ bytes. IsRead R.Source input.old input.new bytes.items) }
+    ensures err { IfErr result (StopsRead R.Source input.old input.new) }
+    ensures few { GaveFew R.Source input.old input.new }
+    ensures too_long { IsTrue R.tells → GaveTooMuch R.Source input.old input.new → result ≡ Err TooLong }
 {
     let mut buf = Vec::new(alloc);
     let mut filled = 0;
-    while filled <= LIMIT {
-        if filled == buf.len() {
-            grow(&mut buf)?;
-        }
+    while filled <= MAX_INPUT {
+        make_ready(&mut buf, filled)?;
         match pull_piece(input, &mut buf, filled) {
             Ok(0) => {
                 buf.truncate(filled);

@@ -1,10 +1,14 @@
-ghost use Rattle.std.specs.Prelude.{◌≡◌, ◌≤◌, ◌++◌, codes, take};
-ghost use Rattle.ecp_command.specs.Texts.{refusal_text};
+ghost use Rattle.std.specs.Prelude.{◌≡◌, ◌<◌, [], length};
+ghost use Rattle.ecp_command.specs.Input.Refusals.{refusal_text};
 ghost use Rattle.ecp_service.specs.Stops.{refusal_code};
 
-use ecp_command::Refusal;
-use ecp_history::{put, put_number, put_word};
+use ecp_command::{Refusal, RefusalText, Subject};
+use ecp_text::LineBuffer;
+use ecp_text::bytes::LINE_ROOM;
 use std::alloc::AllocError;
+
+/// What is said where the words ask for no command.
+const USAGE: &[u8] = b"usage: ecpipe run | run-dir PATH | mend K N ROW | check | soak SEED";
 
 /// Why a command stops with nothing written to its output.
 #[derive(Clone, Copy, Debug, PartialEq, Eq)]
@@ -37,25 +41,20 @@ impl Stop {
         }
     }
 
-    /// Puts the line that tells the user into the front of `out`, with its line feed, and answers its length in bytes.
-    pub fn line(self, out: &mut [u8; 512]) -> usize
-        ensures within { result ≤ 512 }
-        ensures text { take result out.new ≡ line_of self }
+    /// The line that tells the user, with its line feed.
+    pub fn line(self) -> LineBuffer
+        ensures { result ≡ line_of self }
     {
+        let mut line = LineBuffer::new();
         match self {
-            Stop::Usage => put(
-                out,
-                0,
-                b"usage: ecpipe run | run-dir PATH | mend K N ROW | check | soak SEED\n",
-            ),
-            Stop::Refused(refusal) => {
-                let end = put_refusal(out, refusal);
-                put(out, end, b"\n")
-            }
-            Stop::ReadFault => put(out, 0, b"input: read fault\n"),
-            Stop::NoMemory => put(out, 0, b"no memory\n"),
-            Stop::TooLong => put(out, 0, b"input: too long\n"),
+            Stop::Usage => line.put(USAGE),
+            Stop::Refused(refusal) => put_refusal(&mut line, refusal),
+            Stop::ReadFault => line.put(b"input: read fault"),
+            Stop::NoMemory => line.put(b"no memory"),
+            Stop::TooLong => line.put(b"input: too long"),
         }
+        line.end_line();
+        line
     }
 }
 
@@ -69,24 +68,18 @@ fn code_of_refusal(refusal: Refusal) -> u8
     }
 }
 
-/// Puts the text of a refusal into the front of `out`.
-fn put_refusal(out: &mut [u8; 512], refusal: Refusal) -> usize
-    ensures within { result ≤ 64 }
-    ensures text { take result out.new ≡ refusal_text refusal }
+/// Puts the text of a refusal into an empty line.
+fn put_refusal(line: &mut LineBuffer, refusal: Refusal)
+    requires { line.old ≡ [] }
+    ensures text { line.new ≡ refusal_text refusal }
+    ensures within { length line.new < LINE_ROOM }
 {
-    match refusal {
-        Refusal::NoRule => put(out, 0, b"head: no line ---"),
-        Refusal::NotToml => put(out, 0, b"head: not TOML"),
-        Refusal::Key(setting) => {
-            let end = put(out, 0, b"head:");
-            put_word(out, end, setting.key().as_bytes())
-        }
-        Refusal::UnknownKey => put(out, 0, b"head: unknown key"),
-        Refusal::Line(number) => {
-            let end = put(out, 0, b"line");
-            put_number(out, end, number)
-        }
-        Refusal::NoMemory => put(out, 0, b"no memory"),
+    let RefusalText { words, subject } = refusal.text();
+    line.put(words.as_bytes());
+    match subject {
+        Subject::Nothing => {}
+        Subject::Key(setting) => line.put_word(setting.key().as_bytes()),
+        Subject::Line(number) => line.put_number(number),
     }
 }
 

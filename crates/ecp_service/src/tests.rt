@@ -1,6 +1,8 @@
+mod generated;
 mod scripts;
 
 use super::*;
+use ecp_shape::limits::MAX_INPUT;
 use ecp_store::{MemSink, MemSource};
 use std::alloc::{AllocError, Global};
 use std::process::Abort;
@@ -8,10 +10,14 @@ use std::test::Fail;
 
 const USAGE: &[u8] = b"usage: ecpipe run | run-dir PATH | mend K N ROW | check | soak SEED\n";
 
+/// The head of the scripts.
+const SCRIPT_HEAD: &[u8] = b"k = 2\nn = 3\nnodes = 3\nblock = 1\n---\n";
+
 /// A run, with the most bytes that a call of its source and sinks moves and the calls that fail, and what it leaves.
 #[derive(Clone, Copy)]
 struct Run {
     words: &'static str,
+    head: &'static [u8],
     input: &'static [u8],
     piece: usize,
     failing_pulls: &'static [u64],
@@ -23,6 +29,7 @@ struct Run {
 
 const DONE_RUN: Run = Run {
     words: "mend 2 3 2",
+    head: b"",
     input: b"AB",
     piece: 65_536,
     failing_pulls: &[],
@@ -31,6 +38,15 @@ const DONE_RUN: Run = Run {
     out: b"G",
     diag: b"",
 };
+
+impl Run {
+    /// The input: its head, and what stands behind it.
+    fn bytes(&self, alloc: Global) -> Result<Vec<u8>, AllocError> {
+        let mut bytes = self.head.to_vec(alloc)?;
+        bytes.extend_from_slice(self.input)?;
+        Ok(bytes)
+    }
+}
 
 fn words_of(alloc: Global, line: &str) -> Result<Vec<String>, AllocError> {
     let mut words = Vec::new(alloc);
@@ -73,7 +89,7 @@ fn each_leaves<R: Abort>(rt: &R, alloc: Global, runs: &[Run]) -> Result<(), Fail
     for (at, run) in runs.iter().enumerate() {
         for piece in [1, 3, 65_536] {
             let run = Run { piece, ..*run };
-            let bytes = run.input.to_vec(alloc)?;
+            let bytes = run.bytes(alloc)?;
             assert!(rt; leaves(alloc, &run, bytes)?, "run {at} by {piece}");
         }
     }
@@ -129,16 +145,58 @@ fn says_why_it_stops(rt: HostRuntime) -> Result<(), Fail> {
     each_leaves(&rt, rt.alloc(), &runs)
 }
 
+/// Whether an input of so many bytes is too long for a run: one of comment bytes behind its head.
+fn is_too_long(alloc: Global, run: &Run, len: usize) -> Result<bool, Fail> {
+    let mut bytes = run.bytes(alloc)?;
+    bytes.resize(len, b'#')?;
+    leaves(alloc, run, bytes)
+}
+
+const TOO_LONG: Run = Run {
+    words: "run",
+    status: 8,
+    out: b"",
+    diag: b"input: too long\n",
+    ..DONE_RUN
+};
+
 #[test]
-fn an_input_past_its_limit_is_too_long(rt: HostRuntime) -> Result<(), Fail> {
+fn an_input_one_byte_past_its_limit_is_too_long(rt: HostRuntime) -> Result<(), Fail> {
+    assert!(rt; is_too_long(rt.alloc(), &TOO_LONG, MAX_INPUT + 1)?);
+    Ok(())
+}
+
+#[test]
+fn a_long_input_is_too_long_to_mend(rt: HostRuntime) -> Result<(), Fail> {
     let run = Run {
-        words: "run",
-        status: 8,
-        out: b"",
-        diag: b"input: too long\n",
-        ..DONE_RUN
+        words: "mend 4 6 5",
+        input: b"",
+        ..TOO_LONG
     };
-    let bytes = vec![in rt.alloc(); 0; LIMIT + 1]?;
-    assert!(rt; leaves(rt.alloc(), &run, bytes)?);
+    assert!(rt; is_too_long(rt.alloc(), &run, 16_777_218)?);
+    assert!(rt; is_too_long(rt.alloc(), &run, 16_777_300)?);
+    Ok(())
+}
+
+#[test]
+fn a_long_input_with_a_bad_head_is_too_long(rt: HostRuntime) -> Result<(), Fail> {
+    let run = Run {
+        input: b"k = 0\n---\n",
+        ..TOO_LONG
+    };
+    assert!(rt; is_too_long(rt.alloc(), &run, 16_777_218)?);
+    assert!(rt; is_too_long(rt.alloc(), &run, 16_777_300)?);
+    Ok(())
+}
+
+#[test]
+fn a_long_script_of_comments_is_too_long(rt: HostRuntime) -> Result<(), Fail> {
+    let run = Run {
+        head: SCRIPT_HEAD,
+        input: b"# a comment\n",
+        ..TOO_LONG
+    };
+    assert!(rt; is_too_long(rt.alloc(), &run, 16_777_218)?);
+    assert!(rt; is_too_long(rt.alloc(), &run, 16_777_300)?);
     Ok(())
 }

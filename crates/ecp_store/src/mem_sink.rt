@@ -54,7 +54,7 @@ impl MemSink {
 }
 
 impl Sink for MemSink {
-    ghost tells = { λ _. true };
+    ghost tells = { true };
 
     ghost appended = { λ sink. sink.appended };
 

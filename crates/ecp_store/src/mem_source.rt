@@ -43,7 +43,7 @@ impl MemSource {
 }
 
 impl Source for MemSource {
-    ghost tells = { λ _. true };
+    ghost tells = { true };
 
     ghost left = { λ source. source.left };
 

@@ -5,8 +5,8 @@ use crate::Failed;
 
 /// Where bytes go to, in pieces.
 pub trait Sink {
-    /// Whether it tells what was appended and flushed. No call changes this.
-    ghost tells: { Self → Bool };
+    /// Whether sinks of this type tell what was appended and flushed.
+    ghost tells: { Bool };
 
     /// The bytes that were appended, where it tells.
     ghost appended: { Self → List ℕ };
@@ -24,20 +24,20 @@ pub trait Sink {
 
         ensures some { IfOk result (λ m. 1 ≤ m) }
         ensures within { IfOk result (λ m. m ≤ length bytes.now) }
-        ensures appends { IsTrue (tells self.old) → IfOk result (λ m. appended self.new ≡ appended self.old ++ take m bytes.now) }
-        ensures err { IsTrue (tells self.old) → OnErr result (appended self.new ≡ appended self.old) }
-        ensures flushed { IsTrue (tells self.old) → flushed self.new ≡ flushed self.old }
+        ensures appends { IsTrue tells → IfOk result (λ m. appended self.new ≡ appended self.old ++ take m bytes.now) }
+        ensures err { IsTrue tells → OnErr result (appended self.new ≡ appended self.old) }
+        ensures flushed { IsTrue tells → flushed self.new ≡ flushed self.old }
 
-        ensures tells { tells self.new ≡ tells self.old }
         ensures never_falls { faults self.old ≤ faults self.new }
+        ensures kept { OnOk result (faults self.new ≡ faults self.old) }
         ensures cause { HasCause result (faults self.old) (faults self.new) };
 
     /// Flushes all bytes that were appended. How many are flushed after a failure is not said.
     fn flush(&mut self) -> Result<(), Failed>
-        ensures all { IsTrue (tells self.old) → OnOk result (flushed self.new ≡ length (appended self.new)) }
-        ensures appended { IsTrue (tells self.old) → appended self.new ≡ appended self.old }
+        ensures all { IsTrue tells → OnOk result (flushed self.new ≡ length (appended self.new)) }
+        ensures appended { IsTrue tells → appended self.new ≡ appended self.old }
 
-        ensures tells { tells self.new ≡ tells self.old }
         ensures never_falls { faults self.old ≤ faults self.new }
+        ensures kept { OnOk result (faults self.new ≡ faults self.old) }
         ensures cause { HasCause result (faults self.old) (faults self.new) };
 }

@@ -41,7 +41,7 @@ impl<W: Write> StdSink<W> {
 }
 
 impl<W: Write> Sink for StdSink<W> {
-    ghost tells = { λ _. false };
+    ghost tells = { false };
 
     ghost appended = { λ _. [] };
 

@@ -38,7 +38,7 @@ impl<R: Read> StdSource<R> {
 }
 
 impl<R: Read> Source for StdSource<R> {
-    ghost tells = { λ _. false };
+    ghost tells = { false };
 
     ghost left = { λ _. [] };
 

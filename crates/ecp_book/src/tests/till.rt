@@ -130,7 +130,7 @@ fn what_was_seen_and_what_came_in_are_the_money(rt: HostRuntime) -> Result<(), F
     paid_and_watched::<Brand, _>(&rt, rt.alloc(), blank)
 }
 
-fn paid_and_watched<N: Names, R: Threads + Wait + Abort + Sync>(
+fn paid_and_watched<N: Names + Send + Sync, R: Threads + Wait + Abort + Sync>(
     rt: &R,
     alloc: Global,
     blank: Blank,

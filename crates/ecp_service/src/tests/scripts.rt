@@ -1,5 +1,20 @@
 use super::*;
 
+/// A script behind the head of the scripts.
+fn script(calls: &'static [u8], out: &'static [u8]) -> Run {
+    Run {
+        head: SCRIPT_HEAD,
+        ..row("run", calls, out)
+    }
+}
+
+fn refused_script(calls: &'static [u8], status: u8, diag: &'static [u8]) -> Run {
+    Run {
+        head: SCRIPT_HEAD,
+        ..refused(calls, status, diag)
+    }
+}
+
 fn refused(input: &'static [u8], status: u8, diag: &'static [u8]) -> Run {
     Run {
         input,
@@ -10,14 +25,8 @@ fn refused(input: &'static [u8], status: u8, diag: &'static [u8]) -> Run {
 #[test]
 fn serves_the_calls_of_a_script(rt: HostRuntime) -> Result<(), Fail> {
     let runs = [
-        row(
-            "run",
+        script(
             b"\
-            k = 2\n\
-            n = 3\n\
-            nodes = 3\n\
-            block = 1\n\
-            ---\n\
             put a hex 4142\n\
             lose 0\n\
             read a 0\n\
@@ -34,14 +43,8 @@ fn serves_the_calls_of_a_script(rt: HostRuntime) -> Result<(), Fail> {
             end\n\
             ",
         ),
-        row(
-            "run",
+        script(
             b"\
-            k = 2\n\
-            n = 3\n\
-            nodes = 3\n\
-            block = 1\n\
-            ---\n\
             put a hex 4142\n\
             lose 0\n\
             read a 0\n\
@@ -64,14 +67,8 @@ fn serves_the_calls_of_a_script(rt: HostRuntime) -> Result<(), Fail> {
             end\n\
             ",
         ),
-        row(
-            "run",
+        script(
             b"\
-            k = 2\n\
-            n = 3\n\
-            nodes = 3\n\
-            block = 1\n\
-            ---\n\
             put a hex 4142\n\
             lose 0\n\
             read a 0\n\
@@ -94,14 +91,8 @@ fn serves_the_calls_of_a_script(rt: HostRuntime) -> Result<(), Fail> {
             end\n\
             ",
         ),
-        row(
-            "run",
+        script(
             b"\
-            k = 2\n\
-            n = 3\n\
-            nodes = 3\n\
-            block = 1\n\
-            ---\n\
             put a hex 41\n\
             put a hex 42\n\
             read a 0\n\
@@ -121,15 +112,9 @@ fn serves_the_calls_of_a_script(rt: HostRuntime) -> Result<(), Fail> {
             end\n\
             ",
         ),
-        row(
-            "run",
+        script(
             b"\
-            k = 2\n\
-            n = 3\n\
-            nodes = 3\n\
-            block = 1\n\
-            ---\n\
-            put e hex -\n\
+                        put e hex -\n\
             read e 0\n\
             ",
             b"\
@@ -167,15 +152,9 @@ fn serves_the_calls_of_a_script(rt: HostRuntime) -> Result<(), Fail> {
             end\n\
             ",
         ),
-        row(
-            "run",
+        script(
             b"\
-            k = 2\n\
-            n = 3\n\
-            nodes = 3\n\
-            block = 1\n\
-            ---\n\
-            session 3\n\
+                        session 3\n\
             lose 0\n\
             put a hex 41\n\
             lose 0\n\
@@ -195,15 +174,9 @@ fn serves_the_calls_of_a_script(rt: HostRuntime) -> Result<(), Fail> {
             end\n\
             ",
         ),
-        row(
-            "run",
+        script(
             b"\
-            k = 2\n\
-            n = 3\n\
-            nodes = 3\n\
-            block = 1\n\
-            ---\n\
-            ",
+                        ",
             b"journal 0\nend\n",
         ),
     ];
@@ -228,25 +201,15 @@ fn says_which_fault_of_an_input_is_the_first(rt: HostRuntime) -> Result<(), Fail
             3,
             b"head: unknown key\n",
         ),
-        refused(
+        refused_script(
             b"\
-            k = 2\n\
-            n = 3\n\
-            nodes = 3\n\
-            block = 1\n\
-            ---\n\
-            fetch a 0\n\
+                        fetch a 0\n\
             ",
             4,
             b"line 6\n",
         ),
-        refused(
+        refused_script(
             b"\
-            k = 2\n\
-            n = 3\n\
-            nodes = 3\n\
-            block = 1\n\
-            ---\n\
             put a hex 414\n\
             ",
             4,
@@ -254,14 +217,9 @@ fn says_which_fault_of_an_input_is_the_first(rt: HostRuntime) -> Result<(), Fail
         ),
         Run {
             failing_pulls: &[1],
-            ..refused(
+            ..refused_script(
                 b"\
-                k = 2\n\
-                n = 3\n\
-                nodes = 3\n\
-                block = 1\n\
-                ---\n\
-                put a hex 4142\n\
+                                put a hex 4142\n\
                 lose 0\n\
                 read a 0\n\
                 ",
@@ -277,14 +235,15 @@ fn says_which_fault_of_an_input_is_the_first(rt: HostRuntime) -> Result<(), Fail
 fn a_fault_of_the_output_cuts_the_text_short(rt: HostRuntime) -> Result<(), Fail> {
     let run = Run {
         words: "run",
-        input: b"k = 2\nn = 3\nnodes = 3\nblock = 1\n---\nput a hex 4142\nlose 0\nread a 0\n",
+        head: SCRIPT_HEAD,
+        input: b"put a hex 4142\nlose 0\nread a 0\n",
         piece: 1,
         failing_pushes: &[8],
         status: WRITE_FAULT,
         out: b"session ",
         ..DONE_RUN
     };
-    let bytes = run.input.to_vec(rt.alloc())?;
+    let bytes = run.bytes(rt.alloc())?;
     assert!(rt; leaves(rt.alloc(), &run, bytes)?);
     Ok(())
 }

@@ -1,12 +1,12 @@
 use Rattle.std.proofs.Common.{◌≡◌, List, [], ◌∷◌, length, sym, ◌∙◌, ap, subst, arith, ℕ}
 use Rattle.ecp_code.specs.Stripes.{stripes}
-use Rattle.ecp_history.specs.declared.act.Act.{Act}
-use Rattle.ecp_history.specs.declared.act.Act.TheVariants.{Stored}
-use Rattle.ecp_history.specs.declared.entry.Entry.{Entry}
-use Rattle.ecp_history.specs.declared.shape.Shape.{Shape}
-use Rattle.ecp_history.specs.Changes.{CanChange}
-use Rattle.ecp_history.specs.Tables.{PlainTable, start}
-use Rattle.ecp_history.proofs.MaskLaws.{up_nodes}
+use Rattle.ecp_entry.specs.declared.act.Act.{Act}
+use Rattle.ecp_entry.specs.declared.act.Act.TheVariants.{Stored}
+use Rattle.ecp_entry.specs.declared.entry.Entry.{Entry}
+use Rattle.ecp_shape.specs.declared.shape.Shape.{Shape}
+use Rattle.ecp_history.specs.table.Changes.{CanChange}
+use Rattle.ecp_history.specs.table.Tables.{PlainTable, start}
+use Rattle.ecp_history.proofs.tables.MaskLaws.{up_nodes}
 use Rattle.ecp_history.proofs.table_tests.with_file.Goals as goal
 
 abbrev three : Shape

@@ -1,4 +1,4 @@
-use Rattle.std.proofs.Common.{◌∙◌, ℕ, arith, length-drop, subst, sym, IsTrue}
+use Rattle.std.proofs.Common.{◌∙◌, ℕ, arith, length-drop}
 use Rattle.ecp_store.proofs.PushLaws.{pushed-front}
 use Rattle.ecp_service.proofs.writing.push_all.Goals as goal
 
@@ -8,7 +8,6 @@ loop-pushed-preserved g c =
     let was = c.loop-pushed.invariant in
     record {
       within = omega (arith, length-drop {A = ℕ}, e.within);
-      tells = e.tells ∙ was.tells;
-      falls = omega (arith, e.never_falls, was.falls);
-      appended = λ tells. pushed-front _ _ _ _ _ _ (was.appended tells) (e.appends (subst IsTrue (sym was.tells) tells));
+      sound = e.kept ∙ was.sound;
+      appended = λ told. pushed-front _ _ _ _ _ _ (was.appended told) (e.appends told);
     }

@@ -1,4 +1,5 @@
-use Rattle.std.proofs.Common.{length, ◌-◌, ◌≡◌, ◌≤◌, IsTrue, ◌++◌, take}
+use Rattle.std.proofs.Common.{length, ◌-◌, ◌≡◌, ◌≤◌, take}
+use Rattle.ecp_service.specs.Sinks.{Got}
 use Rattle.ecp_service.proofs.writing.push_all.Given as goal
 
 -- what was appended so far is a beginning of the text
@@ -7,9 +8,8 @@ invariant-loop-pushed g l =
     let sink = g.W.Sink in
     record {
       within : l.pushed ≤ length l.text;
-      tells : sink.tells l.sink ≡ sink.tells l.fn.sink;
-      falls : sink.faults l.fn.sink ≤ sink.faults l.sink;
-      appended : IsTrue (sink.tells l.fn.sink) → sink.appended l.sink ≡ sink.appended l.fn.sink ++ take l.pushed l.text;
+      sound : sink.faults l.sink ≡ sink.faults l.fn.sink;
+      appended : Got sink l.fn.sink l.sink (take l.pushed l.text);
     }
 
 abbrev pub decreases-loop-pushed : goal.decreases-loop-pushed

@@ -1,8 +1,8 @@
 use Rattle.std.proofs.Common.{◌≡◌, sym, subst}
 use Rattle.std.specs.Prelude.{OnOk}
-use Rattle.ecp_history.specs.declared.act.Act.{Act}
-use Rattle.ecp_history.specs.Changes.{CanChange, CanStore}
-use Rattle.ecp_history.specs.Steps.{after_act}
+use Rattle.ecp_entry.specs.declared.act.Act.{Act}
+use Rattle.ecp_history.specs.table.Changes.{CanChange, CanStore}
+use Rattle.ecp_history.specs.table.Steps.{after_act}
 use Rattle.ecp_history.proofs.table.Table.after.Goals as goal
 
 pub store_entry-requires-clause-nodes : goal.store_entry-requires-clause-nodes

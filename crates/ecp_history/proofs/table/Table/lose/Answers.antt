@@ -3,10 +3,10 @@ use Rattle.std.specs.Prelude.{slice_get}
 use Rattle.std.specs.Option.{option_map_or}
 use Rattle.std.proofs.lemmas.Option.{slice_get-get_or}
 use Rattle.std.specs.List.{AllByRecursion}
-use Rattle.ecp_history.specs.Tables.{Stripe, Standing, File, Node, PlainTable, Shaped}
-use Rattle.ecp_history.specs.Steps.{with_rows, without_node, lost}
-use Rattle.ecp_history.specs.Rising.{IsRising}
-use Rattle.ecp_history.proofs.KeptLaws.{kept_by, rising-with_rows, full-with_rows, written_over}
+use Rattle.ecp_history.specs.table.Tables.{Stripe, Standing, File, Node, PlainTable, Shaped}
+use Rattle.ecp_history.specs.table.Steps.{with_rows, without_node, lost}
+use Rattle.ecp_history.specs.table.Rising.{IsRising}
+use Rattle.ecp_history.proofs.tables.KeptLaws.{kept_by, rising-with_rows, full-with_rows, written_over}
 use Rattle.ecp_history.proofs.table.Table.lose.Goals as goal
 
 pub invariant_of-self : goal.invariant_of-self

@@ -1,9 +1,9 @@
 use Rattle.std.proofs.Common.{◌≡◌, ◌==◌, length, refl, sym, ◌∙◌, ap, subst, List, true, if◌then◌else◌}
 use Rattle.std.specs.List.{AllByRecursion}
-use Rattle.ecp_history.specs.Tables.{Stripe, Standing}
-use Rattle.ecp_history.specs.Steps.{with_rows, change_row}
-use Rattle.ecp_history.specs.Rising.{IsRising}
-use Rattle.ecp_history.proofs.KeptLaws.{kept_by, rising-with_rows, full-with_rows, written_over}
+use Rattle.ecp_history.specs.table.Tables.{Stripe, Standing}
+use Rattle.ecp_history.specs.table.Steps.{with_rows, change_row}
+use Rattle.ecp_history.specs.table.Rising.{IsRising}
+use Rattle.ecp_history.proofs.tables.KeptLaws.{kept_by, rising-with_rows, full-with_rows, written_over}
 use Rattle.ecp_history.proofs.table.Table.restore.Goals as goal
 
 pub invariant_of-self : goal.invariant_of-self

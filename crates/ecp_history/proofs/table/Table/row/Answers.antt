@@ -1,6 +1,6 @@
 use Rattle.std.proofs.Common.{◌≡◌, ◌==◌, length, sym, ◌∙◌, ap, Some}
 use Rattle.std.specs.Prelude.{find}
-use Rattle.ecp_history.proofs.KeptLaws.{all-find}
+use Rattle.ecp_history.proofs.tables.KeptLaws.{all-find}
 use Rattle.ecp_history.proofs.table.Table.row.Goals as goal
 
 pub encode-requires-clause-data : goal.encode-requires-clause-data

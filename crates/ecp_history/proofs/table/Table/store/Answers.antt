@@ -4,13 +4,13 @@ use Rattle.std.specs.List.{AllByRecursion}
 use Rattle.std.specs.BTreeMap.{get}
 use Rattle.std.proofs.lemmas.List.{reverse-append}
 use Rattle.ecp_code.specs.Stripes.{stripes, stripe_count}
-use Rattle.ecp_history.specs.Placement.{nodes_in}
-use Rattle.ecp_history.specs.Tables.{Stripe, File, Node, PlainTable, Shaped}
-use Rattle.ecp_history.specs.Steps.{placed, stripes_among, stored}
-use Rattle.ecp_history.specs.Rising.{IsRising}
-use Rattle.ecp_history.specs.Kept.{name_cmp}
-use Rattle.ecp_history.proofs.StoreLaws.{count_is, length-stripes_among}
-use Rattle.ecp_history.proofs.KeptLaws.{kept_by, named-more, within-more, name_same, full-stored, datas_full}
+use Rattle.ecp_history.specs.table.Placement.{nodes_in}
+use Rattle.ecp_history.specs.table.Tables.{Stripe, File, Node, PlainTable, Shaped}
+use Rattle.ecp_history.specs.table.Steps.{placed, stripes_among, stored}
+use Rattle.ecp_history.specs.table.Rising.{IsRising}
+use Rattle.ecp_history.specs.table.Kept.{name_cmp}
+use Rattle.ecp_history.proofs.tables.StoreLaws.{count_is, length-stripes_among}
+use Rattle.ecp_history.proofs.tables.KeptLaws.{kept_by, named-more, within-more, name_same, full-stored, datas_full}
 use Rattle.ecp_history.proofs.table.Table.store.Goals as goal
 
 pub stripes_of-requires-clause-numbers : goal.stripes_of-requires-clause-numbers

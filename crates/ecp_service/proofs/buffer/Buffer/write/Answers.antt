@@ -1,8 +1,8 @@
 use Rattle.std.proofs.Common.{[]}
-use Rattle.ecp_service.proofs.Sending.{sent_less}
+use Rattle.ecp_service.proofs.Sending.{writes_first}
 use Rattle.ecp_service.proofs.buffer.Buffer.write.Goals as goal
 
-pub returns-in_err-send-clause-sends : goal.returns-in_err-send-clause-sends
-returns-in_err-send-clause-sends g c told =
-    let sent = c.in_err-send.ensures.sends told in
-    (sent.0, sent_less (g.W.Sink.appended c.args.sink.now) c.args.self.now (g.W.Sink.appended c.send.new.sink) [] c.args.text.now sent.1)
+pub returns-in_err-send : goal.returns-in_err-send
+returns-in_err-send g c =
+    writes_first g.W.Sink c.in_err-send.field-0.0 c.from_residual.result (c.args.sink.now, c.args.self.now) (c.send.new.sink, c.send.new.self) [] c.args.text.now
+    c.from_residual.ensures.0 c.in_err-send.ensures.sends

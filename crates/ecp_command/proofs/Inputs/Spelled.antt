@@ -1,0 +1,180 @@
+-- What a line that spells a form looks like, word by word.
+use Rattle.std.proofs.Common.{◌≡◌, ◌≢◌, ℕ, ◌<◌, ◌^◌, ◌==◌, get_or, true, false, not, List, [], ◌∷◌, ◌++◌, decimal, refl, sym, ap, subst, ◌∙◌, append_assoc}
+use Rattle.std.specs.Prelude.{codes}
+use Rattle.std.specs.List.{AllByRecursion, list_all}
+use Rattle.std.proofs.lemmas.Bool.{false≢true, eqb-false, and_parts}
+use Rattle.std.proofs.lemmas.List.{append_cancel_left}
+use Rattle.std.proofs.lemmas.List.Elements.{recursion_from_All}
+use Rattle.ecp_shape.specs.declared.limits.TheConstants.{MAX_SESSIONS}
+use Rattle.ecp_command.specs.declared.input.call.Call.TheVariants.{Put, Read, Sum, Cat, Lose, Join, Rebuild, Stat}
+use Rattle.ecp_command.specs.declared.input.form.Form.{Form}
+use Rattle.ecp_command.specs.declared.input.form.Form.TheVariants as form
+use Rattle.ecp_command.specs.Input.Cuts.{IsClear, IsCut}
+use Rattle.ecp_command.specs.Input.Forms.{is_name_byte, IsName, IsHex, Spells}
+
+-- a text is cut in one way
+pub same_cut : (b : ℕ) (f g r s : List ℕ) → IsClear b f → IsClear b g → f ++ b ∷ r ≡ g ++ b ∷ s → (f ≡ g) × (r ≡ s)
+same_cut b [] [] r s cf cg e = (refl, cc)
+same_cut b [] (y ∷ g) r s cf cg e = absurd (cg.0 cc)
+same_cut b (x ∷ f) [] r s cf cg e = absurd (cf.0 cc)
+same_cut b (x ∷ f) (y ∷ g) r s cf cg e =
+    let same : x ≡ y = cc in
+    let rest : f ++ b ∷ r ≡ g ++ b ∷ s = cc in
+    let both = same_cut b f g r s cf.1 cg.1 rest in
+    (rw (same, both.0) refl, both.1)
+
+pub not_clear : (b : ℕ) (front rest : List ℕ) → IsClear b (front ++ b ∷ rest) → ⊥
+not_clear b [] rest h = h.0 refl
+not_clear b (x ∷ front) rest h = not_clear b front rest h.1
+
+name_byte : (b : ℕ) → is_name_byte b ≡ true → b ≢ 32
+name_byte b h e = false≢true (subst (λ (x : ℕ). is_name_byte x ≡ true) e h)
+
+all_name : (name : List ℕ) → AllByRecursion (λ b. is_name_byte b ≡ true) name → IsClear 32 name
+all_name [] h = tt
+all_name (b ∷ bs) h = (name_byte b h.0, all_name bs h.1)
+
+pub clear_name : (name : List ℕ) → IsName name → IsClear 32 name
+clear_name name h = all_name name (recursion_from_All (λ b. is_name_byte b ≡ true) name h.bytes)
+
+-- a text without spaces, as a test finds
+clear_word : (w : List ℕ) → list_all (λ b. not (b == 32)) w ≡ true → IsClear 32 w
+clear_word [] h = tt
+clear_word (b ∷ w) h =
+    let parts = and_parts (not (b == 32)) (list_all (λ x. not (x == 32)) w) h in
+    ((λ e. false≢true (subst (λ (x : ℕ). not (x == 32) ≡ true) e parts.0)), clear_word w parts.1)
+
+-- lines that begin with other bytes
+begins_other : (line other : List ℕ) → line ≡ other → (get_or line 0 0 == get_or other 0 0) ≡ false → ⊥
+begins_other line other e d = eqb-false _ _ d (ap (λ (l : List ℕ). get_or l 0 0) e)
+
+-- ---- the forms behind each word
+
+pub session_is : (rest : List ℕ) (f : Form) → Spells (codes "session " ++ rest) f → (n : ℕ) × (n < MAX_SESSIONS) × (rest ≡ decimal n) × (f ≡ form.Session n)
+session_is rest (form.Session n) h = (n, h.0, append_cancel_left (codes "session ") rest (decimal n) h.1, refl)
+session_is rest (form.Call (Put name bytes)) h = absurd (begins_other _ _ h.3 refl)
+session_is rest (form.Call (Read name index)) h = absurd (begins_other _ _ h.2 refl)
+session_is rest (form.Call (Lose node)) h = absurd (begins_other _ _ h.1 refl)
+session_is rest (form.Call (Sum name index)) h = absurd h
+session_is rest (form.Call (Cat name)) h = absurd h
+session_is rest (form.Call (Join node)) h = absurd h
+session_is rest (form.Call (Rebuild from to)) h = absurd h
+session_is rest (form.Call (Stat name)) h = absurd h
+
+-- the parts of a put, behind its word
+pub record IsPut (rest : List ℕ) (f : Form) : Type 0 where
+  pub name : List ℕ
+  pub digits : List ℕ
+  pub bytes : List ℕ
+  pub is_name : IsName name
+  pub is_hex : IsHex digits bytes
+  pub whole : rest ≡ name ++ 32 ∷ (codes "hex " ++ digits)
+  pub form_is : f ≡ form.Call (Put name bytes)
+
+pub put_is : (rest : List ℕ) (f : Form) → Spells (codes "put " ++ rest) f → IsPut rest f
+put_is rest (form.Session n) h = absurd (begins_other _ _ h.1 refl)
+put_is rest (form.Call (Put name bytes)) h = record {
+  name = name;
+  digits = h.1;
+  bytes = bytes;
+  is_name = h.0;
+  is_hex = h.2;
+  whole = append_cancel_left (codes "put ") rest (name ++ 32 ∷ (codes "hex " ++ h.1)) (h.3 ∙ append_assoc (codes "put " ++ name) (codes " hex ") h.1 ∙ append_assoc (codes "put ") name (codes " hex " ++ h.1));
+  form_is = refl;
+}
+put_is rest (form.Call (Read name index)) h = absurd (begins_other _ _ h.2 refl)
+put_is rest (form.Call (Lose node)) h = absurd (begins_other _ _ h.1 refl)
+put_is rest (form.Call (Sum name index)) h = absurd h
+put_is rest (form.Call (Cat name)) h = absurd h
+put_is rest (form.Call (Join node)) h = absurd h
+put_is rest (form.Call (Rebuild from to)) h = absurd h
+put_is rest (form.Call (Stat name)) h = absurd h
+
+-- the parts of a read, behind its word
+pub record IsRead (rest : List ℕ) (f : Form) : Type 0 where
+  pub name : List ℕ
+  pub index : ℕ
+  pub is_name : IsName name
+  pub fits : index < 2 ^ 32
+  pub whole : rest ≡ name ++ 32 ∷ decimal index
+  pub form_is : f ≡ form.Call (Read name index)
+
+pub read_is : (rest : List ℕ) (f : Form) → Spells (codes "read " ++ rest) f → IsRead rest f
+read_is rest (form.Session n) h = absurd (begins_other _ _ h.1 refl)
+read_is rest (form.Call (Put name bytes)) h = absurd (begins_other _ _ h.3 refl)
+read_is rest (form.Call (Read name index)) h = record {
+  name = name;
+  index = index;
+  is_name = h.0;
+  fits = h.1;
+  whole = append_cancel_left (codes "read ") rest (name ++ 32 ∷ decimal index) (h.2 ∙ append_assoc (codes "read " ++ name) (codes " ") (decimal index) ∙ append_assoc (codes "read ") name (codes " " ++ decimal index));
+  form_is = refl;
+}
+read_is rest (form.Call (Lose node)) h = absurd (begins_other _ _ h.1 refl)
+read_is rest (form.Call (Sum name index)) h = absurd h
+read_is rest (form.Call (Cat name)) h = absurd h
+read_is rest (form.Call (Join node)) h = absurd h
+read_is rest (form.Call (Rebuild from to)) h = absurd h
+read_is rest (form.Call (Stat name)) h = absurd h
+
+pub lose_is : (rest : List ℕ) (f : Form) → Spells (codes "lose " ++ rest) f → (n : ℕ) × (n < 2 ^ 32) × (rest ≡ decimal n) × (f ≡ form.Call (Lose n))
+lose_is rest (form.Session n) h = absurd (begins_other _ _ h.1 refl)
+lose_is rest (form.Call (Put name bytes)) h = absurd (begins_other _ _ h.3 refl)
+lose_is rest (form.Call (Read name index)) h = absurd (begins_other _ _ h.2 refl)
+lose_is rest (form.Call (Lose node)) h = (node, h.0, append_cancel_left (codes "lose ") rest (decimal node) h.1, refl)
+lose_is rest (form.Call (Sum name index)) h = absurd h
+lose_is rest (form.Call (Cat name)) h = absurd h
+lose_is rest (form.Call (Join node)) h = absurd h
+lose_is rest (form.Call (Rebuild from to)) h = absurd h
+lose_is rest (form.Call (Stat name)) h = absurd h
+
+-- ---- the word of a line
+
+-- what stands behind the word of a line
+pub behind : (line word rest w tail : List ℕ) → IsCut 32 line word rest → IsClear 32 w → line ≡ w ++ 32 ∷ tail → word ≡ w
+behind line word rest w tail c clear e = (same_cut 32 word w rest tail c.clear clear (sym c.whole ∙ e)).0
+
+pub no_word : (line word rest : List ℕ) → IsCut 32 line word rest → word ≢ codes "session" → word ≢ codes "put" → word ≢ codes "read" → word ≢ codes "lose" → (f : Form) → Spells line f → ⊥
+no_word line word rest c s p r l (form.Session n) h = s (behind line word rest (codes "session") (decimal n) c (clear_word (codes "session") refl) h.1)
+no_word line word rest c s p r l (form.Call (Put name bytes)) h =
+    p (behind line word rest (codes "put") (name ++ (codes " hex " ++ h.1)) c (clear_word (codes "put") refl) (h.3 ∙ append_assoc (codes "put " ++ name) (codes " hex ") h.1 ∙ append_assoc (codes "put ") name (codes " hex " ++ h.1)))
+no_word line word rest c s p r l (form.Call (Read name index)) h =
+    r (behind line word rest (codes "read") (name ++ (codes " " ++ decimal index)) c (clear_word (codes "read") refl) (h.2 ∙ append_assoc (codes "read " ++ name) (codes " ") (decimal index) ∙ append_assoc (codes "read ") name (codes " " ++ decimal index)))
+no_word line word rest c s p r l (form.Call (Lose node)) h = l (behind line word rest (codes "lose") (decimal node) c (clear_word (codes "lose") refl) h.1)
+no_word line word rest c s p r l (form.Call (Sum name index)) h = h
+no_word line word rest c s p r l (form.Call (Cat name)) h = h
+no_word line word rest c s p r l (form.Call (Join node)) h = h
+no_word line word rest c s p r l (form.Call (Rebuild from to)) h = h
+no_word line word rest c s p r l (form.Call (Stat name)) h = h
+
+-- ---- the parts of a put and of a read, where the rest of the line is cut
+
+pub record IsPutAt (name how : List ℕ) : Type 0 where
+  pub digits : List ℕ
+  pub bytes : List ℕ
+  pub is_name : IsName name
+  pub is_hex : IsHex digits bytes
+  pub how_is : how ≡ codes "hex " ++ digits
+
+pub put_at : (rest name how : List ℕ) (f : Form) → IsCut 32 rest name how → Spells (codes "put " ++ rest) f → IsPutAt name how
+put_at rest name how f c h =
+    let p = put_is rest f h in
+    let same = same_cut 32 name p.name how (codes "hex " ++ p.digits) c.clear (clear_name p.name p.is_name) (sym c.whole ∙ p.whole) in
+    record { digits = p.digits; bytes = p.bytes; is_name = subst (λ (n : List ℕ). IsName n) (sym same.0) p.is_name; is_hex = p.is_hex; how_is = same.1 }
+
+pub no_put : (rest : List ℕ) (f : Form) → IsClear 32 rest → Spells (codes "put " ++ rest) f → ⊥
+no_put rest f clear h =
+    let p = put_is rest f h in
+    not_clear 32 p.name (codes "hex " ++ p.digits) (subst (λ (t : List ℕ). IsClear 32 t) p.whole clear)
+
+pub record IsReadAt (name text : List ℕ) : Type 0 where
+  pub index : ℕ
+  pub is_name : IsName name
+  pub fits : index < 2 ^ 32
+  pub text_is : text ≡ decimal index
+
+pub read_at : (rest name text : List ℕ) (f : Form) → IsCut 32 rest name text → Spells (codes "read " ++ rest) f → IsReadAt name text
+read_at rest name text f c h =
+    let p = read_is rest f h in
+    let same = same_cut 32 name p.name text (decimal p.index) c.clear (clear_name p.name p.is_name) (sym c.whole ∙ p.whole) in
+    record { index = p.index; is_name = subst (λ (n : List ℕ). IsName n) (sym same.0) p.is_name; fits = p.fits; text_is = same.1 }

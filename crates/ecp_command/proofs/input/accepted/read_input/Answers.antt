@@ -1,0 +1,20 @@
+use Rattle.std.proofs.Common.{subst, List}
+use Rattle.std.proofs.lemmas.Result.{err_from_is_err_and}
+use Rattle.ecp_command.specs.declared.input.numbered.Numbered.{Numbered}
+use Rattle.ecp_command.specs.Input.Costs.{IsOver}
+use Rattle.ecp_command.proofs.Inputs.Gathering.{are_sessions}
+use Rattle.ecp_command.proofs.Inputs.Joined.{head_refuses, cost_refuses}
+use Rattle.ecp_command.proofs.input.accepted.read_input.Goals as goal
+
+pub returns-in_err-head-clause-refused : goal.returns-in_err-head-clause-refused
+returns-in_err-head-clause-refused c =
+    let p = err_from_is_err_and c.from_residual.result c.from_residual.ensures.1 in
+    rw (p.1, p.2) (head_refuses c.args.bytes.now _ c.in_err-head.field-0.0 c.in-Some.ensures.some c.in_err-head.ensures.refused)
+
+pub returns-in-Some-line_over-clause-refused : goal.returns-in-Some-line_over-clause-refused
+returns-in-Some-line_over-clause-refused c =
+    cost_refuses c.args.bytes.now _ c.in_ok-head.head c.in_ok-script.script c.in-Some-line_over.line c.in-Some.ensures.some c.in_ok-head.ensures.gives c.in_ok-script.ensures.read
+    (subst (λ (ns : List Numbered). IsOver ns c.in-Some-line_over.line) c.deref.ensures.value c.in-Some-line_over.ensures.over)
+
+pub sessions_with_calls-requires : goal.sessions_with_calls-requires
+sessions_with_calls-requires c = are_sessions _ c.in_ok-script.script.forms.items c.in_ok-script.ensures.read.read.spelled

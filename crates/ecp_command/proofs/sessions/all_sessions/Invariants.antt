@@ -1,6 +1,0 @@
-use Rattle.std.proofs.Common.{[]}
-use Rattle.ecp_command.specs.Lists.{HaveCalls}
-use Rattle.ecp_command.proofs.sessions.all_sessions.Given as goal
-
-abbrev pub invariant-loop-number : goal.invariant-loop-number
-invariant-loop-number l = HaveCalls l.number [] l.sessions.items

@@ -1,7 +1,0 @@
-use Rattle.std.proofs.Common.{◌≡◌, take}
-use Rattle.std.specs.Prelude.{count_by, min, sum_by}
-use Rattle.ecp_history.specs.Tables.{stands_live}
-use Rattle.ecp_history.proofs.counts.live_over.Given as goal
-
-abbrev pub invariant-loop-stripe : goal.invariant-loop-stripe
-invariant-loop-stripe l = l.count ≡ min (sum_by (λ x. count_by (stands_live l.node) x.rows) (take l.stripe-index l.stripes)) 4294967295

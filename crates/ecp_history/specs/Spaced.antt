@@ -1,6 +1,0 @@
--- Words on a line.
-use Rattle.std.specs.Prelude.{ℕ, List, ◌∷◌, flat_map}
-
--- some words, each behind a space
-abbrev pub spaced : List (List ℕ) → List ℕ
-spaced words = flat_map (λ word. 32 ∷ word) words

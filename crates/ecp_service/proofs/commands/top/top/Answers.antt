@@ -1,0 +1,54 @@
+use Rattle.std.proofs.Common.{refl, sym, subst, arith}
+use Rattle.ecp_command.specs.Words.{texts}
+use Rattle.ecp_command.specs.declared.words.commands.Command.{Command}
+use Rattle.ecp_command.specs.declared.words.commands.Command.TheVariants.{Mend, Run}
+use Rattle.ecp_service.specs.Answers.{Asks, Only}
+use Rattle.ecp_service.specs.Ends.{ends}
+use Rattle.ecp_service.proofs.Asked.{spelled_asked, one_spelled, told_asked, taken_asked, cut_asked}
+use Rattle.ecp_service.proofs.commands.top.top.Goals as goal
+
+pub returns-in-Some-Mend-clause-told : goal.returns-in-Some-Mend-clause-told
+returns-in-Some-Mend-clause-told g c =
+    let k = c.in-Some-Mend.k in
+    let n = c.in-Some-Mend.n in
+    let row = c.in-Some-Mend.row in
+    let is = rw c.in-Some-Mend.field-0-is at c.in-Some-Mend.ensures.some in
+    told_asked g.R.Source g.W.Sink g.E.Sink (Only (Mend k n row)) (Asks (texts c.args.words.now)) c.args.input.now c.mend.new.input c.mend.result
+    (λ none. absurd (none (Mend k n row) is)) (λ script. absurd (one_spelled (texts c.args.words.now) k n row script is)) c.mend.ensures.told
+
+pub returns-in-Some-Mend-clause-taken : goal.returns-in-Some-Mend-clause-taken
+returns-in-Some-Mend-clause-taken g c =
+    let k = c.in-Some-Mend.k in
+    let n = c.in-Some-Mend.n in
+    let row = c.in-Some-Mend.row in
+    let is = rw c.in-Some-Mend.field-0-is at c.in-Some-Mend.ensures.some in
+    taken_asked g.R.Source g.W.Sink g.E.Sink (Only (Mend k n row)) (Asks (texts c.args.words.now)) c.args.input.now c.mend.new.input
+    (λ none. absurd (none (Mend k n row) is)) c.mend.ensures.taken
+
+pub returns-in-Some-Run-clause-cut_short : goal.returns-in-Some-Run-clause-cut_short
+returns-in-Some-Run-clause-cut_short g c cut =
+    let is : Asks (texts c.args.words.now) Run = rw c.in-Some-Run.field-0-is at c.in-Some-Run.ensures.some in
+    cut_asked g.R.Source g.W.Sink g.E.Sink (Only Run) (Asks (texts c.args.words.now)) (ends c.args.input.now c.args.out.now c.args.diag.now) (ends c.run.new.input c.run.new.out c.run.new.diag)
+    (λ command only. subst (λ (x : Command). Asks (texts c.args.words.now) x) (sym only) is) (λ none. absurd (none Run refl)) (c.run.ensures.cut_short cut)
+
+pub returns-in-Some-Run-clause-told : goal.returns-in-Some-Run-clause-told
+returns-in-Some-Run-clause-told g c =
+    let is = rw c.in-Some-Run.field-0-is at c.in-Some-Run.ensures.some in
+    told_asked g.R.Source g.W.Sink g.E.Sink (Only Run) (Asks (texts c.args.words.now)) c.args.input.now c.run.new.input c.run.result
+    (λ none. absurd (none Run is)) (λ script. refl) c.run.ensures.told
+
+pub returns-in-Some-Run-clause-taken : goal.returns-in-Some-Run-clause-taken
+returns-in-Some-Run-clause-taken g c =
+    let is = rw c.in-Some-Run.field-0-is at c.in-Some-Run.ensures.some in
+    taken_asked g.R.Source g.W.Sink g.E.Sink (Only Run) (Asks (texts c.args.words.now)) c.args.input.now c.run.new.input
+    (λ none. absurd (none Run is)) c.run.ensures.taken
+
+pub returns-in-None-clause-told : goal.returns-in-None-clause-told
+returns-in-None-clause-told g c = record {
+  usage = λ none. c.refuse-in-None.ensures.status;
+  too_long = λ told much. absurd (omega (arith, much told));
+  refused = λ script told short sound r some may. absurd (c.in-None.ensures.none Run script);
+}
+
+pub returns-in-None-clause-complete : goal.returns-in-None-clause-complete
+returns-in-None-clause-complete g c command asks told short takes none = absurd (c.in-None.ensures.none command (spelled_asked _ command asks))
