@@ -1,0 +1,9 @@
+pub mod Views
+pub mod Order
+pub mod Delivered
+pub mod Turns
+pub mod Steps
+pub mod Told
+pub mod Asked
+pub mod Senders
+pub mod Counts

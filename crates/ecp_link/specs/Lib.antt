@@ -1,0 +1,5 @@
+pub mod Links
+pub mod Among
+pub mod Queued
+pub mod Rings
+pub mod Delivering
