@@ -1,0 +1,9 @@
+mod Counting
+mod Finishing
+mod Gathering
+mod Handing
+mod Numbering
+mod Placing
+mod Running
+mod Seating
+mod Working

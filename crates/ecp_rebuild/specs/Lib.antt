@@ -1,0 +1,4 @@
+pub mod Office
+pub mod Rules
+pub mod Tasks
+pub mod Workers
