@@ -1,1 +1,2 @@
 pub mod PushLaws
+pub mod MemStoreLaws

@@ -155,3 +155,29 @@ fn the_standard_streams_fit(rt: HostRuntime) {
     assert_eq!(rt; out.flush(), Ok(()));
     assert_eq!(rt; diag.flush(), Ok(()));
 }
+
+#[test]
+fn a_memory_store_gives_what_it_keeps_and_fails_where_listed(rt: HostRuntime) -> Result<(), Fail> {
+    let alloc = rt.alloc();
+    let key = Key {
+        stripe: 3,
+        row: 1,
+        serial: 0,
+    };
+    let mut buf = [0u8; 2];
+    let mut store = MemStore::new(alloc, [1, 3, 4].to_vec(alloc)?)?;
+    assert_eq!(rt; store.keep(key, &[7, 8, 9]), Ok(()));
+    assert_eq!(rt; store.keep(key, &[1]), Err(KeepFault::Failed));
+    assert_eq!(rt; store.read(key, 1, &mut buf), Ok(()));
+    assert_eq!(rt; buf, [8, 9]);
+    assert_eq!(rt; store.remove(key), Err(Failed));
+    assert_eq!(rt; store.read(key, 0, &mut buf), Err(Failed));
+    assert_eq!(rt; store.served(), 2);
+    assert_eq!(rt; store.keep(key, &[5, 6]), Ok(()));
+    assert_eq!(rt; store.read(key, 0, &mut buf), Ok(()));
+    assert_eq!(rt; buf, [5, 6]);
+    assert_eq!(rt; store.served(), 4);
+    assert_eq!(rt; store.remove(key), Ok(()));
+    assert_eq!(rt; store.remove(key), Ok(()));
+    Ok(())
+}
