@@ -1,0 +1,2 @@
+pub mod CancelWords
+pub mod Cancels
