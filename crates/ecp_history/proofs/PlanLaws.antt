@@ -39,6 +39,8 @@ route_stays shape told front more route is later =
 pub plan_stays : (shape : Shape) (told : Bool) (front more : List (List ℕ)) (plan : Plan)
     → IsSoundPlan shape told front plan → TellsLegal shape told (front ++ more) → IsSoundPlan shape told (front ++ more) plan
 plan_stays shape told front more plan sound later = record {
+  in_range = sound.in_range;
+  of_row = sound.of_row;
   helpers = route_stays shape told front more plan.route sound.helpers later;
   makes = sound.makes;
   len_is = sound.len_is;

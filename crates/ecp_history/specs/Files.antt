@@ -11,9 +11,13 @@ abbrev pub is_stored : Act → Bool
 is_stored (Stored first stripes up) = true
 is_stored _ = false
 
+-- a file that the entry stores has bytes
+abbrev pub HasBytes : Entry → Type 0
+HasBytes e = is_stored e.line.act ≡ true → AreBytes e.bytes
+
 -- each file that the history stores has bytes
 abbrev pub StoresBytes : List Entry → Type 0
-StoresBytes history = (e : Entry) → Contains history e → is_stored e.line.act ≡ true → AreBytes e.bytes
+StoresBytes history = (e : Entry) → Contains history e → HasBytes e
 
 -- a call, and how many stripes it may store
 pub record Storing : Type 0 where

@@ -7,6 +7,7 @@ use Rattle.ecp_history.specs.Follows.{PointFits}
 use Rattle.ecp_history.specs.Calls.{Agrees}
 use Rattle.ecp_history.specs.Parts.{PartFits}
 use Rattle.ecp_history.specs.Acts.{HoldsIn}
+use Rattle.ecp_history.specs.Files.{StoresBytes}
 use Rattle.ecp_entry.specs.Told.{Tells, made_of, history_of}
 
 -- an entry may come next, after the entries before it: its point, its call and part, and what its act says
@@ -21,7 +22,8 @@ abbrev pub IsLegal : Shape → Bool → List Entry → Type 0
 IsLegal shape told history =
     (i : ℕ) (e : Entry) → slice_get history i ≡ Some e → MayFollow shape told (take i history) e
 
--- these are the items of a legal history
+-- these are the items of a legal history, whose files have bytes
 pub record TellsLegal (shape : Shape) (told : Bool) (items : List (List ℕ)) : Type 0 where
   pub tells : Tells items (made_of items)
   pub legal : IsLegal shape told (history_of items)
+  pub bytes : StoresBytes (history_of items)

@@ -6,9 +6,9 @@ pub mod Calls
 pub mod Named
 pub mod Parts
 pub mod Acts
-pub mod Legal
 pub mod Spans
 pub mod Counted
 pub mod Files
+pub mod Legal
 pub mod Plans
 pub mod Journals

@@ -3,6 +3,7 @@ use Rattle.std.specs.Prelude.{◌≡◌, ℕ, ◌<◌, ◌≤◌, ◌⊎◌, Boo
 use Rattle.std.specs.List.{IsDistinct}
 use Rattle.ecp_code.specs.Weights.{weights}
 use Rattle.ecp_shape.specs.declared.shape.Shape.{Shape}
+use Rattle.ecp_shape.specs.Range.{IsInRange}
 use Rattle.ecp_history.specs.table.Tables.{PlainTable, HasStripe, block}
 use Rattle.ecp_history.specs.Fronts.{told_table}
 use Rattle.ecp_history.specs.Legal.{TellsLegal}
@@ -53,9 +54,12 @@ pub record IsRouteIn (shape : Shape) (told : Bool) (front : List (List ℕ)) (ro
   pub legal : TellsLegal shape told front
   pub known : IsRoute shape told (told_table shape front) route
 
--- a sound plan: by the history that its front tells, its helpers are rows of the stripe, and they make the target; its
--- block length is the shape's, a slice has 1 byte to a block, and it has one lane or one a helper
+-- a sound plan: the sizes are in their range, and the target is a row of a stripe; by the history that its front tells, its
+-- helpers are rows of the stripe, and they make the target; its block length is the shape's, a slice has 1 byte to a block,
+-- and it has one lane or one a helper
 pub record IsSoundPlan (shape : Shape) (told : Bool) (front : List (List ℕ)) (plan : Plan) : Type 0 where
+  pub in_range : IsInRange shape
+  pub of_row : plan.target < shape.n
   pub helpers : IsRouteIn shape told front plan.route
   pub makes : IsSum shape plan.target plan.route.rows plan.weights ⊎ IsDirect plan.target plan.route.rows plan.weights
   pub len_is : plan.len ≡ shape.block

@@ -12,7 +12,7 @@ ghost use Rattle.ecp_entry.specs.Entries.{brings, is_same_call, loss_of};
 ghost use Rattle.ecp_entry.specs.Items.{item};
 ghost use Rattle.ecp_entry.specs.Told.{history_of};
 ghost use Rattle.ecp_history.specs.Fronts.{IsBlock, IsBlockIn};
-ghost use Rattle.ecp_history.specs.Files.{StoresBytes};
+ghost use Rattle.ecp_history.specs.Files.{StoresBytes, HasBytes};
 ghost use Rattle.ecp_history.specs.Counted.{IsCounted, DropsCounted, spends_fault, faults_spent};
 ghost use Rattle.ecp_history.specs.table.Tables.{PlainTable, HasStripe, block, data_of, live_on, live_rows};
 ghost use Rattle.ecp_history.specs.table.Steps.{table_of};
@@ -34,9 +34,10 @@ pub fn legal_beginnings_are_told()
 {}
 
 /// The items of a legal history, and that of an entry that may follow, tell the legal history with this entry at its end.
+/// If it stores a file, the file has bytes.
 pub fn told_history_grows()
     ensures legal { (shape : Shape) (told : Bool) (items : List (List ℕ)) (hand : ℕ) (e : Entry) →
-        TellsLegal shape told items → MayFollow shape told (history_of items) e →
+        TellsLegal shape told items → MayFollow shape told (history_of items) e → HasBytes e →
         TellsLegal shape told (items ++ item hand e ∷ []) }
     ensures history { (items : List (List ℕ)) (hand : ℕ) (e : Entry) →
         history_of (items ++ item hand e ∷ []) ≡ history_of items ++ e ∷ [] }
