@@ -1,8 +1,8 @@
 -- How many slices a block has, and in which order a slice visits its helpers.
 use Rattle.std.proofs.Common.{◌≡◌, ℕ, zero, suc, ◌+◌, ◌-◌, ◌*◌, ◌/◌, ◌%◌, ◌<◌, ◌≤◌, min, add-one, ◌⊎◌, inl, inr, sym, ◌∙◌, ap, subst, arith, zero-add}
-use Rattle.std.proofs.Math.Nat.{mod-one, mod-eq_of_lt, mod-lt, suc-mul, zero-mul}
+use Rattle.std.proofs.Math.Nat.{mod-one, mod-eq_of_lt, mod-lt, add-mod_left, suc-mul, zero-mul, mul-le-mul_right}
 use Rattle.std.proofs.lemmas.Nat.{div-add-mod'}
-use Rattle.std.proofs.lemmas.Bool.{cases_eq}
+use Rattle.std.proofs.lemmas.Bool.{cases_eq, cases_lt}
 use Rattle.std.proofs.lemmas.Bool.Decides.{nat_tests}
 use Rattle.ecp_plan.specs.Order.{slice_count, slice_start, slice_end, helper_after}
 
@@ -23,6 +23,53 @@ helper_is lanes h j at (inr e) l =
       | inl one ↦ one_place h j at one l ∙ sym (ap (λ (m : ℕ). helper_after m h j at) (e ∙ one))
       | inr more ↦ grind (arith, nat_tests)
     ])
+
+-- a turn goes on from its first helper, or round to the front
+round : (h a t : ℕ) → a < h → t < h → ((a + t < h) × ((a + t) % h ≡ a + t)) ⊎ ((h ≤ a + t) × ((a + t) % h + h ≡ a + t))
+round h a t la lt = elim (cases_lt (a + t) h) [
+  | inl on ↦ inl (on, mod-eq_of_lt on)
+  | inr past ↦
+      let whole : h + (a + t - h) ≡ a + t = omega arith in
+      let rest : a + t - h < h = omega arith in
+      let left : (a + t) % h ≡ a + t - h = sym (ap (λ (m : ℕ). m % h) whole) ∙ add-mod_left h (a + t - h) ∙ mod-eq_of_lt rest in
+      inr (past, omega (arith, left))
+]
+
+same_turn : (h a s t : ℕ) → a < h → s < h → t < h → (a + s) % h ≡ (a + t) % h → s ≡ t
+same_turn h a s t la ls lt e = elim (round h a s la ls) [
+  | inl x ↦ elim (round h a t la lt) [ inl y ↦ omega (arith, x.1, y.1, e) | inr y ↦ absurd (omega (arith, x.1, y.1, e)) ]
+  | inr x ↦ elim (round h a t la lt) [ inl y ↦ absurd (omega (arith, x.1, y.1, e)) | inr y ↦ omega (arith, x.1, y.1, e) ]
+]
+
+-- the first helper of a slice is one of them
+first_within : (lanes h j : ℕ) → (lanes ≡ 1) ⊎ (lanes ≡ h) → 1 ≤ h → j % lanes < h
+first_within lanes h j (inl one) some = let none : j % lanes ≡ 0 = ap (λ (m : ℕ). j % m) one ∙ mod-one j in omega (arith, none)
+first_within lanes h j (inr all) some = subst (λ (m : ℕ). j % m < h) (sym all) (mod-lt j some)
+
+-- no helper is visited twice
+pub never_twice : (lanes h j s t : ℕ) → (lanes ≡ 1) ⊎ (lanes ≡ h) → s < h → t < h → helper_after lanes h j s ≡ helper_after lanes h j t → s ≡ t
+never_twice lanes h j s t l ls lt e =
+    same_turn h (j % lanes) s t (first_within lanes h j l (omega arith)) ls lt (helper_is lanes h j s l ls ∙ e ∙ sym (helper_is lanes h j t l lt))
+
+-- every helper is visited
+pub each_visited : (lanes h j hop : ℕ) → (lanes ≡ 1) ⊎ (lanes ≡ h) → hop < h → (t : ℕ) × (t < h) × (helper_after lanes h j t ≡ hop)
+each_visited lanes h j hop l within =
+    let first : ℕ = j % lanes in
+    let low : first < h = first_within lanes h j l (omega arith) in
+    elim (cases_lt hop first) [
+      | inl before ↦
+          let late : hop + h - first < h = omega arith in
+          let sum : first + (hop + h - first) ≡ h + hop = omega arith in
+          (hop + h - first, late, sym (helper_is lanes h j (hop + h - first) l late) ∙ ap (λ (m : ℕ). m % h) sum ∙ add-mod_left h hop ∙ mod-eq_of_lt within)
+      | inr after ↦
+          let soon : hop - first < h = omega arith in
+          let sum : first + (hop - first) ≡ hop = omega arith in
+          (hop - first, soon, sym (helper_is lanes h j (hop - first) l soon) ∙ ap (λ (m : ℕ). m % h) sum ∙ mod-eq_of_lt within)
+    ]
+
+-- the helper that is visited is one of them
+pub helper_within : (lanes h j t : ℕ) → (lanes ≡ 1) ⊎ (lanes ≡ h) → t < h → helper_after lanes h j t < h
+helper_within lanes h j t l lt = subst (λ (m : ℕ). m < h) (helper_is lanes h j t l lt) (mod-lt (j % lanes + t) (omega arith))
 
 -- the last of some slices: it begins in the block, and the next one would not
 record IsLast (len size last : ℕ) : Type 0 where
@@ -53,3 +100,9 @@ end_is last len size h =
 
 pub last_ends : (len size : ℕ) → 1 ≤ len → 1 ≤ size → slice_end len size (slice_count len size - 1) ≡ len
 last_ends len size some wide = end_is (slice_count len size - 1) len size (last_slice len size some wide)
+
+-- a slice below their number begins in the block
+pub begins_within : (len size j : ℕ) → 1 ≤ len → 1 ≤ size → j < slice_count len size → slice_start size j < len
+begins_within len size j some wide low =
+    let most : j * size ≤ (slice_count len size - 1) * size = mul-le-mul_right size (omega arith) in
+    omega (arith, most, last_starts len size some wide)

@@ -2,7 +2,7 @@
 //!
 //! [`place`] is the node of a row, as the history has it. [`pick`] chooses the helpers of a lost row by their stamps, and
 //! a [`Plan`] has them with their weights and receipts; [`slices`] and [`hop_at`] say into how many slices its block is
-//! cut and which helper a slice visits next. None of these takes memory.
+//! cut and which helper a slice visits next. None of these takes memory. [`laws`] has that a slice visits each helper once.
 //!
 //! It stands on `ecp_history` for placement and for what a sound plan is, on `ecp_code` for weights, on `ecp_node` for
 //! receipts, and on `ecp_book` for tags. The layer above may rely on this: `pick` gives k live rows whose nodes' turns
@@ -13,6 +13,7 @@
 
 mod choice;
 mod hop;
+pub mod laws;
 mod live_row;
 mod order;
 mod picks;
