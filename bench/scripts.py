@@ -1,13 +1,14 @@
 #!/usr/bin/env python3
-"""Writes an input for `ecpipe run`: 10,000 calls, 16 MiB of puts, 64 MiB of reads, or some calls at random.
+"""Writes an input for `ecpipe run`: 10,000 calls, 16 MiB of puts, 64 MiB of reads, or some calls at random, of one
+session or of several.
 
-Usage: scripts.py calls | puts | reads | random SEED"""
+Usage: scripts.py calls | puts | reads | random SEED | sessions SEED"""
 import random
 import sys
 
 
-def head(k, n, nodes, block):
-    return f"k = {k}\nn = {n}\nnodes = {nodes}\nblock = {block}\n---\n"
+def head(k, n, nodes, block, settings=""):
+    return f"k = {k}\nn = {n}\nnodes = {nodes}\nblock = {block}\n{settings}---\n"
 
 
 def calls():
@@ -47,9 +48,60 @@ def some(seed):
             yield f"lose {draw.randint(0, nodes)}\n"
 
 
+def settings(draw, block):
+    yield f"slice = {draw.randint(1, block)}\n"
+    yield f"window = {draw.randint(1, 16)}\n"
+    yield f"workers = {draw.randint(0, 8)}\n"
+
+
+def content(draw, size):
+    if draw.random() < 0.5:
+        return f"gen {draw.getrandbits(64)} {size}"
+    return f"hex {draw.randbytes(size).hex() or '-'}"
+
+
+KINDS = {"put": 6, "read": 4, "sum": 3, "cat": 4, "lose": 3, "join": 3, "rebuild": 4, "stat": 2}
+
+
+def call(draw, size, nodes):
+    """A call of any form, on few names and nodes; size is that of a stripe's data."""
+    kind = draw.choices(list(KINDS), list(KINDS.values()))[0]
+    name, node, other = f"f{draw.randint(0, 6)}", draw.choice(nodes), draw.choice(nodes)
+    match kind:
+        case "put":
+            length = draw.choice([0, 1, size, 3 * size + 1, draw.randint(0, 6 * size)])
+            return f"put {name} {content(draw, length)}\n"
+        case "read" | "sum":
+            return f"{kind} {name} {draw.randint(0, 8)}\n"
+        case "rebuild":
+            return f"rebuild {node} {draw.choice([node, other])}\n"
+        case "lose" | "join":
+            return f"{kind} {node}\n"
+        case _:
+            return f"{kind} {name}\n"
+
+
+def sessions(seed):
+    draw = random.Random(seed)
+    k = draw.randint(1, 6)
+    n = draw.randint(k + 1, 9)
+    nodes = draw.randint(n, 12)
+    block = draw.choice([1, 2, 3, 7, 64])
+    yield head(k, n, nodes, block, "".join(settings(draw, block)))
+    numbers = draw.sample(range(8), draw.randint(2, 8))
+    named = draw.sample(range(nodes), 2) * 4 + [draw.randint(0, nodes)]
+    for phase in range(draw.randint(1, 4)):
+        if phase > 0:
+            yield "barrier\n"
+        for number in numbers:
+            yield f"session {number}\n"
+            yield from (call(draw, k * block, named) for _ in range(draw.randint(0 if phase > 0 else 1, 6)))
+
+
 def main(words):
     kinds = {"calls": calls, "puts": puts, "reads": reads}
-    lines = some(int(words[1])) if words[0] == "random" else kinds[words[0]]()
+    seeded = {"random": some, "sessions": sessions}
+    lines = seeded[words[0]](int(words[1])) if words[0] in seeded else kinds[words[0]]()
     sys.stdout.writelines(lines)
 
 
