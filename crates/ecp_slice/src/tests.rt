@@ -1,3 +1,5 @@
+mod messages;
+
 use super::*;
 use std::process::Abort;
 use std::test::Fail;
