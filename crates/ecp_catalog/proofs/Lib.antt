@@ -1,0 +1,12 @@
+pub mod ApartLaws
+pub mod StampLaws
+pub mod CountLaws
+pub mod FileLaws
+pub mod PositionLaws
+pub mod NameLaws
+pub mod SpanLaws
+pub mod NodeLaws
+pub mod LossLaws
+pub mod OutlineLaws
+pub mod AnswerLaws
+pub mod StoredLaws

@@ -1,0 +1,6 @@
+pub mod Catalogs
+pub mod Standing
+pub mod Losses
+pub mod Kept
+pub mod Outline
+pub mod Stamps

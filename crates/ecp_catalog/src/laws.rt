@@ -1,0 +1,112 @@
+//! Laws of catalogs. Each is a function with an empty body, whose contract is the law.
+
+ghost use Rattle.std.specs.Prelude.{◌≡◌, ℕ, ◌+◌, ◌*◌, ◌<◌, ◌≤◌, Bool, true, false, List, [], ◌∷◌, ◌++◌, All, Option, Some, None, drop, length, map, nat_eq};
+ghost use Rattle.std.specs.List.{IsDistinct, position_from};
+ghost use Rattle.ecp_shape.specs.Range.{IsInRange};
+ghost use Rattle.ecp_shape.specs.declared.shape.Shape.{Shape};
+ghost use Rattle.ecp_node.specs.Receipts.{ReceiptState};
+ghost use Rattle.ecp_entry.specs.declared.act.Act.TheVariants.{Stored};
+ghost use Rattle.ecp_entry.specs.declared.entry.Entry.{Entry};
+ghost use Rattle.ecp_entry.specs.Entries.{is_loss, loss_of};
+ghost use Rattle.ecp_history.specs.Acts.{AreFresh};
+ghost use Rattle.ecp_history.specs.Legal.{IsLegal, MayFollow};
+ghost use Rattle.ecp_history.specs.Named.{block_at};
+ghost use Rattle.ecp_history.specs.table.Tables.{file_of, inc_of, is_live, is_up, live_rows, up_count, up_mask};
+ghost use Rattle.ecp_history.specs.table.Steps.{table_of};
+ghost use Rattle.ecp_catalog.specs.Standing.{file_with, live_among};
+ghost use Rattle.ecp_catalog.specs.Catalogs.{CatalogState, Reserves, Stores, changed_at, empty, files_of, first_loss, is_live_in, losses_of, lost_at, plain, standings_of, with_spare};
+ghost use Rattle.ecp_catalog.specs.Outline.{AreKept, IsOutline, changes, file_stored};
+
+/// The catalog at the start is the outline of the empty history.
+pub fn the_start_is_an_outline()
+    ensures { (shape : Shape) (told : Bool) → IsOutline shape told (empty shape) [] }
+{}
+
+/// Room is no part of an outline: to reserve leaves it.
+pub fn room_is_no_part()
+    ensures files { (shape : Shape) (told : Bool) (old new : CatalogState) (history : List Entry) (name : List ℕ) (hands : ℕ) →
+        IsOutline shape told old history → Reserves (files_of old) (files_of new) name hands → new.nodes ≡ old.nodes →
+        IsOutline shape told new history }
+    ensures losses { (shape : Shape) (told : Bool) (c : CatalogState) (history : List Entry) (m hands : ℕ) →
+        IsOutline shape told c history →
+        IsOutline shape told (record c { nodes = changed_at (with_spare hands) m c.nodes }) history }
+{}
+
+/// An entry that changes nothing leaves the outline.
+pub fn most_entries_leave_the_outline()
+    ensures { (shape : Shape) (told : Bool) (c : CatalogState) (history : List Entry) (e : Entry) →
+        IsOutline shape told c history → changes e.line.act ≡ false → IsOutline shape told c (history ++ e ∷ []) }
+{}
+
+/// After the loss of a node, the catalog that lost it at the loss's position is the outline.
+pub fn a_loss_is_outlined()
+    ensures outline { (shape : Shape) (told : Bool) (c : CatalogState) (history : List Entry) (e : Entry) (m : ℕ) →
+        IsOutline shape told c history → loss_of e ≡ Some m →
+        IsOutline shape told (record c { nodes = changed_at (lost_at (length history)) m c.nodes }) (history ++ e ∷ []) }
+    ensures behind { (shape : Shape) (told : Bool) (c : CatalogState) (history : List Entry) (m : ℕ) →
+        IsOutline shape told c history → m < length c.nodes → All (λ p. p < length history) (losses_of c.nodes m) }
+{}
+
+/// After an entry that stores a file, the catalog that stored it with the receipts of its rows is the outline.
+pub fn a_stored_file_is_outlined()
+    ensures { (shape : Shape) (told : Bool) (old new : CatalogState) (history : List Entry) (e : Entry) (first count up : ℕ) (rows : List ReceiptState) →
+        IsLegal shape told history → IsOutline shape told old history →
+        MayFollow shape told history e → e.line.act ≡ Stored first count up →
+        AreKept shape told (table_of shape history) first up e.bytes rows → length rows ≡ count * shape.n →
+        Stores old new (record { file = file_stored e first count; rows = rows }) →
+        IsOutline shape told new (history ++ e ∷ []) }
+{}
+
+/// No file of a legal history's outline has a stripe number that no entry has stored.
+pub fn fresh_numbers_are_free()
+    ensures { (shape : Shape) (told : Bool) (c : CatalogState) (history : List Entry) (first count s : ℕ) →
+        IsLegal shape told history → IsOutline shape told c history → AreFresh history first count →
+        first ≤ s → s < first + count → file_with c.files s ≡ None }
+{}
+
+/// An outline says of files what the table says.
+pub fn files_are_the_tables()
+    ensures file { (shape : Shape) (told : Bool) (c : CatalogState) (history : List Entry) (name : List ℕ) →
+        IsOutline shape told c history → file_of (plain c) name ≡ file_of (table_of shape history) name }
+    ensures block { (shape : Shape) (told : Bool) (c : CatalogState) (history : List Entry) (name : List ℕ) (j : ℕ) →
+        IsOutline shape told c history → block_at shape (plain c) name j ≡ block_at shape (table_of shape history) name j }
+{}
+
+/// An outline says of rows what the table says.
+pub fn rows_are_the_tables()
+    ensures live { (shape : Shape) (told : Bool) (c : CatalogState) (history : List Entry) (s r : ℕ) →
+        IsOutline shape told c history → is_live_in c s r ≡ is_live (table_of shape history) s r }
+    ensures count { (shape : Shape) (told : Bool) (c : CatalogState) (history : List Entry) (s : ℕ) →
+        IsOutline shape told c history → length (live_among (standings_of c s)) ≡ live_rows (table_of shape history) s }
+    ensures there { (shape : Shape) (told : Bool) (c : CatalogState) (history : List Entry) (s : ℕ) →
+        IsOutline shape told c history →
+        All (λ x. (x.row < shape.n) × (is_live (table_of shape history) s x.row ≡ true) × (is_up (plain c) x.node ≡ true)) (live_among (standings_of c s)) }
+{}
+
+/// An outline says of nodes what the table says.
+pub fn nodes_are_the_tables()
+    ensures mask { (shape : Shape) (told : Bool) (c : CatalogState) (history : List Entry) →
+        IsOutline shape told c history → up_mask (plain c) ≡ up_mask (table_of shape history) }
+    ensures count { (shape : Shape) (told : Bool) (c : CatalogState) (history : List Entry) →
+        IsOutline shape told c history → up_count (plain c) ≡ up_count (table_of shape history) }
+    ensures up { (shape : Shape) (told : Bool) (c : CatalogState) (history : List Entry) (m : ℕ) →
+        IsOutline shape told c history → is_up (plain c) m ≡ is_up (table_of shape history) m }
+    ensures inc { (shape : Shape) (told : Bool) (c : CatalogState) (history : List Entry) (m : ℕ) →
+        IsOutline shape told c history → inc_of (plain c) m ≡ inc_of (table_of shape history) m }
+{}
+
+/// The first loss of a node from a position on stands where the history has it.
+pub fn losses_are_the_historys()
+    ensures { (shape : Shape) (told : Bool) (c : CatalogState) (history : List Entry) (m point : ℕ) →
+        IsOutline shape told c history → m < length c.nodes →
+        first_loss c.nodes point m ≡ position_from (is_loss m) point (drop point history) }
+{}
+
+/// The live rows of a stripe are distinct, and by a legal history no two of them are on one node: the helpers of a plan can
+/// be picked from them.
+pub fn live_rows_stand_apart()
+    ensures rows { (c : CatalogState) (s : ℕ) → IsDistinct nat_eq (map (λ x. x.row) (live_among (standings_of c s))) }
+    ensures nodes { (shape : Shape) (told : Bool) (c : CatalogState) (history : List Entry) (s : ℕ) →
+        IsInRange shape → IsLegal shape told history → IsOutline shape told c history →
+        IsDistinct nat_eq (map (λ x. x.node) (live_among (standings_of c s))) }
+{}

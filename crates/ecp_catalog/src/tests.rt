@@ -1,0 +1,193 @@
+ghost use Rattle.std.specs.Prelude.{◌≡◌, ℕ, ◌<◌, IfOk, true, vec_len};
+ghost use Rattle.ecp_book.specs.Logs.{empty_log, history_log, node_log};
+ghost use Rattle.ecp_node.specs.Nodes.{start_of};
+
+use crate::{Catalog, Stamps};
+use ecp_book::{Blank, Book, Keeper, Names, Tag};
+use ecp_entry::Name;
+use ecp_history::{BlockName, File};
+use ecp_node::{Node, Receipt};
+use ecp_plan::{Hop, LiveRow};
+use ecp_shape::Shape;
+use ecp_store::{MemStore, NoMemory};
+use std::alloc::Global;
+use std::marker::Brand;
+use std::process::Abort;
+use std::test::Fail;
+
+/// The receipt of a row of stripe 0, from the node of its number, which keeps one byte for it.
+fn kept<N: Names, R: Abort>(
+    rt: &R,
+    alloc: Global,
+    book: &Book<N>,
+    keeper: Keeper<N>,
+    past: Tag<N>,
+    row: u8,
+) -> Result<Receipt<N>, Fail>
+    requires stores { (m : ℕ) → m < 3 → start_of N.stores m ≡ record { faults = 0; faultless = true } }
+    requires row { row < 3 }
+    requires past { past.log ≡ history_log }
+    ensures { IfOk result (λ r. r.node ≡ row) }
+{
+    assert!(rt; keeper.log() == u32::from(row) + 1 && keeper.len() == 0);
+    let store = MemStore::new(alloc, Vec::new(alloc))?;
+    let mut node = Node::new(alloc, row, store, keeper, past);
+    let Ok(receipt) = node.keep(book, 0, row, 0, &[0x41]) else {
+        return Err("kept".into());
+    };
+    Ok(receipt)
+}
+
+/// The receipts of the three rows of stripe 0, each on the node of its number.
+fn three_rows<N: Names, R: Abort>(
+    rt: &R,
+    alloc: Global,
+    book: &Book<N>,
+    mut keepers: Vec<Keeper<N>>,
+) -> Result<Vec<Receipt<N>>, Fail>
+    requires stores { (m : ℕ) → m < 3 → start_of N.stores m ≡ record { faults = 0; faultless = true } }
+{
+    let third = keepers.pop().ok_or("log 3")?;
+    let second = keepers.pop().ok_or("log 2")?;
+    let first = keepers.pop().ok_or("log 1")?;
+    let mut history = keepers.pop().ok_or("log 0")?;
+    assert!(rt; history.log() == 0);
+    let mut rows = Vec::new(alloc);
+    rows.push(kept(rt, alloc, book, first, book.tag(&mut history), 0)?)?;
+    rows.push(kept(rt, alloc, book, second, book.tag(&mut history), 1)?)?;
+    rows.push(kept(rt, alloc, book, third, book.tag(&mut history), 2)?)?;
+    Ok(rows)
+}
+
+/// A catalog of three nodes with the file `a` of two bytes.
+fn with_file<N: Names>(alloc: Global, rows: Vec<Receipt<N>>) -> Result<Catalog<N>, NoMemory>
+    requires { vec_len rows ≡ 3 }
+{
+    let shape = Shape {
+        n: 3,
+        k: 2,
+        nodes: 3,
+        block: 1,
+    };
+    let name = Name::new("a");
+    let mut catalog = Catalog::new(alloc, shape)?;
+    catalog.reserve(&name, 1)?;
+    let file = File {
+        name,
+        len: 2,
+        first: 0,
+        stripes: 1,
+    };
+    catalog.store(file, rows);
+    Ok(catalog)
+}
+
+/// Loses a node that has no loss yet.
+fn lose<N: Names, R: Abort>(
+    rt: &R,
+    catalog: &mut Catalog<N>,
+    node: u32,
+    position: u32,
+) -> Result<(), Fail> {
+    assert!(rt; node < catalog.shape().nodes);
+    match catalog.first_loss_from(node, 0) {
+        Some(_) => Err("no loss before".into()),
+        None => {
+            catalog.reserve_loss(node, 1)?;
+            catalog.lose(node, position);
+            Ok(())
+        }
+    }
+}
+
+#[test]
+fn rows_are_live_until_their_node_is_lost(rt: HostRuntime) -> Result<(), Fail> {
+    let blank = Blank::new(rt.alloc(), 4)?;
+    put_and_lost::<Brand, _>(&rt, rt.alloc(), blank)
+}
+
+fn put_and_lost<N: Names, R: Abort>(rt: &R, alloc: Global, blank: Blank) -> Result<(), Fail>
+    requires book { blank ≡ N.book }
+    requires stores { (m : ℕ) → m < 3 → start_of N.stores m ≡ record { faults = 0; faultless = true } }
+{
+    let (book, keepers) = Book::<N>::open(alloc, blank)?;
+    let rows = three_rows(rt, alloc, &book, keepers)?;
+    assert!(rt; rows.len() == 3);
+    let mut catalog = with_file(alloc, rows)?;
+    is_whole(rt, &catalog);
+    names_lead_to_blocks(rt, &catalog);
+    lose(rt, &mut catalog, 0, 1)?;
+    is_without_node_zero(rt, &catalog);
+    knows_the_loss(rt, &catalog);
+    Ok(())
+}
+
+fn is_whole<N: Names, R: Abort>(rt: &R, catalog: &Catalog<N>) {
+    assert!(rt; catalog.up_mask() == 7 && catalog.live_on(0) == 1);
+    assert!(rt; catalog.is_live(0, 0) && !catalog.is_live(0, 3) && !catalog.is_live(1, 0));
+    assert!(rt; catalog.has_stripe(0) && !catalog.has_stripe(1));
+}
+
+fn names_lead_to_blocks<N: Names, R: Abort>(rt: &R, catalog: &Catalog<N>) {
+    let name = Name::new("a");
+    assert!(rt; catalog.file(&name).is_some_and(|file| file.len == 2));
+    assert!(rt; !catalog.is_free(&name) && catalog.is_free(&Name::new("b")));
+    assert_eq!(rt;
+        catalog.block_of(&name, 1),
+        Some(BlockName { stripe: 0, row: 1 })
+    );
+    assert!(rt; catalog.block_of(&name, 2).is_none());
+}
+
+fn is_without_node_zero<N: Names, R: Abort>(rt: &R, catalog: &Catalog<N>) {
+    assert!(rt; catalog.up_mask() == 6 && catalog.up_count() == 2);
+    assert!(rt; !catalog.is_up(0) && catalog.is_up(1) && catalog.inc(0) == 0);
+    assert!(rt; catalog.live_on(0) == 0 && catalog.live_on(2) == 1);
+    let live = [LiveRow { row: 1, node: 1 }, LiveRow { row: 2, node: 2 }];
+    assert_eq!(rt; catalog.live_rows(0).as_slice(), &live[..]);
+    assert!(rt; catalog.live_rows(1).len() == 0);
+}
+
+fn knows_the_loss<N: Names, R: Abort>(rt: &R, catalog: &Catalog<N>) {
+    assert!(rt; catalog.first_loss_from(0, 1) == Some(1));
+    assert!(rt; catalog.first_loss_from(0, 2).is_none());
+    assert!(rt; catalog.first_loss_among(3, 0) == Some(1));
+    assert!(rt; catalog.first_loss_among(6, 0).is_none());
+}
+
+#[test]
+fn stamps_go_round(rt: HostRuntime) -> Result<(), Fail> {
+    let blank = Blank::new(rt.alloc(), 4)?;
+    three_helps::<Brand, _>(&rt, rt.alloc(), blank)
+}
+
+/// Three direct plans: the nodes that help are 1, 2 and again 1.
+fn three_helps<N: Names, R: Abort>(rt: &R, alloc: Global, blank: Blank) -> Result<(), Fail>
+    requires book { blank ≡ N.book }
+    requires stores { (m : ℕ) → m < 3 → start_of N.stores m ≡ record { faults = 0; faultless = true } }
+{
+    let (book, keepers) = Book::<N>::open(alloc, blank)?;
+    let mut rows = three_rows(rt, alloc, &book, keepers)?;
+    let second = [helper(2, rows.pop().ok_or("row 2")?)];
+    let first = [helper(1, rows.pop().ok_or("row 1")?)];
+    let mut stamps = Stamps::new();
+    stamps.raise(&first);
+    stamps.raise(&second);
+    assert!(rt; stamps.as_slice()[1] == 1 && stamps.as_slice()[2] == 2);
+    stamps.raise(&first);
+    assert!(rt; stamps.as_slice()[1] == 3 && stamps.as_slice()[2] == 2);
+    assert!(rt; stamps.as_slice()[0] == 0);
+    Ok(())
+}
+
+fn helper<N: Names>(node: u8, receipt: Receipt<N>) -> Hop<N>
+    ensures { result.node ≡ node }
+{
+    Hop {
+        row: node,
+        node,
+        inc: 0,
+        weight: 1,
+        receipt,
+    }
+}
