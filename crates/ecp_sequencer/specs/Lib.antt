@@ -1,0 +1,11 @@
+pub mod Hands
+pub mod Ties
+pub mod EntryRefs
+pub mod Notes
+pub mod Facts
+pub mod Passes
+pub mod Histories
+pub mod Sequencers
+pub mod Steps
+pub mod Closed
+pub mod Rounds
