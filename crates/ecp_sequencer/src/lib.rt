@@ -23,6 +23,7 @@ mod noting;
 mod pass;
 mod room;
 mod sequencer;
+mod skipping;
 mod start;
 mod tie;
 

@@ -1,4 +1,6 @@
-ghost use Rattle.std.specs.Prelude.{◌≡◌, [], length};
+ghost use Rattle.std.specs.Prelude.{◌≡◌, ◌<◌, [], length};
+ghost use Rattle.ecp_shape.specs.declared.limits.TheConstants.{MAX_SESSIONS};
+ghost use Rattle.ecp_sequencer.specs.Hands.{hands_of};
 ghost use Rattle.ecp_sequencer.specs.Histories.{IsKept};
 ghost use Rattle.ecp_sequencer.specs.Sequencers.{Agrees};
 ghost use Rattle.ecp_sequencer.specs.Steps.{Event};
@@ -47,6 +49,8 @@ impl<N: Names> Sequencer<N> {
     pub fn meet(&mut self, book: &Book<N>, pass: &mut Pass<N>)
         ensures agree { Agrees self.old pass.old }
         ensures kept { IsKept N.shape N.told N.callers N.spare_hands self.old.history self.old.notes }
+        ensures session { pass.old.caller < MAX_SESSIONS }
+        ensures in_range { pass.old.hand < hands_of N.callers N.spare_hands }
         ensures same { self.new ≡ self.old }
         ensures pass { pass.new ≡ pass.old }
     {
