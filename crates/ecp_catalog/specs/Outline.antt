@@ -15,8 +15,9 @@ use Rattle.ecp_history.specs.declared.table.file.File.{File}
 use Rattle.ecp_history.specs.table.Tables.{PlainTable, stripe_of, rows_of, live_on}
 use Rattle.ecp_history.specs.table.Steps.{table_of}
 use Rattle.ecp_history.specs.Fronts.{AreOfBlock}
+use Rattle.ecp_history.specs.Legal.{IsLegal, MayFollow}
 use Rattle.ecp_catalog.specs.Standing.{file_with}
-use Rattle.ecp_catalog.specs.Catalogs.{CatalogState, plain, receipts_of, standings_of, live_of, losses_of}
+use Rattle.ecp_catalog.specs.Catalogs.{CatalogState, Stores, plain, receipts_of, standings_of, live_of, losses_of}
 
 -- the positions of the losses of a node in a history, rising
 abbrev pub loss_positions : ℕ → List Entry → List ℕ
@@ -76,3 +77,18 @@ AreKept shape told t first up content rows =
 -- the file that an entry stores, which has as many stripes as its content
 abbrev pub file_stored : Entry → ℕ → ℕ → File
 file_stored e first count = record { name = e.name; len = length e.bytes; first = first; stripes = count }
+
+-- An entry may follow a history and stores a file: the catalog, which was the history's outline, stored the file with the receipts of its
+-- rows, and so became this one
+pub record TakesFile (shape : Shape) (told : Bool) (old new : CatalogState) (history : List Entry) (e : Entry) : Type 0 where
+  pub first : ℕ
+  pub count : ℕ
+  pub up : ℕ
+  pub rows : List ReceiptState
+  pub legal : IsLegal shape told history
+  pub outlined : IsOutline shape told old history
+  pub follows : MayFollow shape told history e
+  pub says : e.line.act ≡ Stored first count up
+  pub kept : AreKept shape told (table_of shape history) first up e.bytes rows
+  pub full : length rows ≡ count * shape.n
+  pub taken : Stores old new (record { file = file_stored e first count; rows = rows })

@@ -23,8 +23,9 @@ use std::marker::Model;
 /// What is kept of a plain table by one that holds no byte of it: its files with the receipts of their rows, and its
 /// nodes.
 ///
-/// Each query costs at most what a stripe has rows or a service has nodes, beside one search by a name or by a number;
-/// no query, `lose` and `store` take memory.
+/// A question costs at most what a stripe has rows or a service has nodes, beside one search by a name or by a number.
+/// Questions, [`lose`](Catalog::lose) and [`store`](Catalog::store) take no memory: [`reserve`](Catalog::reserve) and
+/// [`reserve_loss`](Catalog::reserve_loss) take it before.
 #[derive(Drop)]
 pub struct Catalog<N: Names> {
     files: FileList<N>,

@@ -15,7 +15,7 @@ ghost use Rattle.ecp_history.specs.table.Tables.{file_of, inc_of, is_live, is_up
 ghost use Rattle.ecp_history.specs.table.Steps.{table_of};
 ghost use Rattle.ecp_catalog.specs.Standing.{file_with, live_among};
 ghost use Rattle.ecp_catalog.specs.Catalogs.{CatalogState, Reserves, Stores, changed_at, empty, files_of, first_loss, is_live_in, losses_of, lost_at, plain, standings_of, with_spare};
-ghost use Rattle.ecp_catalog.specs.Outline.{AreKept, IsOutline, changes, file_stored};
+ghost use Rattle.ecp_catalog.specs.Outline.{AreKept, IsOutline, TakesFile, changes, file_stored};
 
 /// The catalog at the start is the outline of the empty history.
 pub fn the_start_is_an_outline()
@@ -49,12 +49,8 @@ pub fn a_loss_is_outlined()
 
 /// After an entry that stores a file, the catalog that stored it with the receipts of its rows is the outline.
 pub fn a_stored_file_is_outlined()
-    ensures { (shape : Shape) (told : Bool) (old new : CatalogState) (history : List Entry) (e : Entry) (first count up : ℕ) (rows : List ReceiptState) →
-        IsLegal shape told history → IsOutline shape told old history →
-        MayFollow shape told history e → e.line.act ≡ Stored first count up →
-        AreKept shape told (table_of shape history) first up e.bytes rows → length rows ≡ count * shape.n →
-        Stores old new (record { file = file_stored e first count; rows = rows }) →
-        IsOutline shape told new (history ++ e ∷ []) }
+    ensures { (shape : Shape) (told : Bool) (old new : CatalogState) (history : List Entry) (e : Entry) →
+        TakesFile shape told old new history e → IsOutline shape told new (history ++ e ∷ []) }
 {}
 
 /// No file of a legal history's outline has a stripe number that no entry has stored.

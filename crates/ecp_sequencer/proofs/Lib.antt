@@ -1,6 +1,8 @@
 pub mod NoteLaws
+pub mod AskLaws
 pub mod KeptLaws
 pub mod DeskLaws
+pub mod CallLaws
 pub mod StepLaws
 pub mod EventLaws
 pub mod StartLaws

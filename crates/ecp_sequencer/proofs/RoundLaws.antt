@@ -193,12 +193,12 @@ raised v w front is extends noted = record {
 }
 
 -- of each pass the history has just the entries that it counted
-pub counts : (history : Log) (spares caller : ℕ) (w : PassState) → Worked (first_pass spares caller) w → IsSettled history w → Counted history spares caller w.calls
-counts history spares caller w a settled =
+pub counts : (s : SequencerState) (spares caller : ℕ) (w : PassState) → Worked (first_pass spares caller) w → IsSettled s w → Counted s.history spares caller w.calls
+counts s spares caller w a settled =
     let hand : ℕ = own_hand spares caller in
     record {
       mine = a.mine;
-      just = ap (λ (h : ℕ). items_by h history) (sym a.steps.hand) ∙ settled.own.entries ∙ sym a.steps.settled ∙ a.steps.entered;
+      just = ap (λ (h : ℕ). items_by h s.history) (sym a.steps.hand) ∙ settled.own.entries ∙ sym a.steps.settled ∙ a.steps.entered;
       numbered = a.numbered;
     }
 

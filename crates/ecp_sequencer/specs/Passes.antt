@@ -1,8 +1,9 @@
 -- What contracts see of a pass, and what holds of every pass.
-use Rattle.std.specs.Prelude.{◌≡◌, ℕ, zero, suc, ◌+◌, ◌<◌, ◌≤◌, nat_lt, if◌then◌else◌, List, [], ◌∷◌, ◌++◌, length, All}
+use Rattle.std.specs.Prelude.{◌≡◌, ℕ, zero, suc, ◌+◌, ◌<◌, ◌≤◌, nat_lt, if◌then◌else◌, List, [], ◌∷◌, ◌++◌, length, All, Option, MatchOption, ⊤}
 use mathlib.Core.List.{IsPrefix}
 use Rattle.ecp_shape.specs.declared.limits.TheConstants.{MAX_SESSIONS}
 use Rattle.ecp_book.specs.Logs.{Log, history_log}
+use Rattle.ecp_entry.specs.declared.deed.Deed.{Deed}
 use Rattle.ecp_entry.specs.Told.{items_by}
 use Rattle.ecp_sequencer.specs.Hands.{own_hand, hands_of, IsHandOf}
 use Rattle.ecp_sequencer.specs.Facts.{facts_of, entries_noted}
@@ -37,6 +38,10 @@ pub record IsPass (callers spares log : ℕ) (p : PassState) : Type 0 where
   pub noted : IsPrefix (entries_noted p.notes) (items_by p.hand p.front)
   pub numbered : (facts_of p.notes).calls ≤ p.calls
   pub held : All (IsHeld callers spares p.caller p.front) p.spare
+
+-- what the open call of a hand with these notes asks for, where it has one
+abbrev pub AsksFor : Log → Option Deed → Type 0
+AsksFor notes deed = MatchOption (facts_of notes).call ⊤ (λ c. c.deed ≡ deed)
 
 -- a pass with these parts
 abbrev pub pass_seen : ℕ → ℕ → Log → HandNotes → List HandNotes → PassState

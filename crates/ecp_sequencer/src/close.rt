@@ -1,8 +1,7 @@
 //! The end of a sequencer.
 ghost use Rattle.std.specs.Prelude.{◌≡◌, ◌<◌};
 ghost use Rattle.ecp_sequencer.specs.Hands.{hands_of};
-ghost use Rattle.ecp_sequencer.specs.Histories.{Stands};
-ghost use Rattle.ecp_sequencer.specs.Closed.{IsSettled, Closed};
+ghost use Rattle.ecp_sequencer.specs.Closed.{Closed, IsHeard, IsSettled};
 
 use crate::hand::Hand;
 use crate::pass::Pass;
@@ -15,7 +14,7 @@ impl<N: Names> Sequencer<N> {
     ///
     /// A pass that is not handed in is not spoken of; the history is legal all the same.
     pub fn close(mut self, book: &Book<N>, passes: Vec<Pass<N>>) -> Journal
-        ensures { Closed N.shape N.told N.callers N.spare_hands self.history result.lines passes.items }
+        ensures { Closed N.shape N.told N.callers N.spare_hands self result.lines passes.items }
     {
         for pass in passes {
             self.settle(book, pass);
@@ -26,7 +25,7 @@ impl<N: Names> Sequencer<N> {
 
     // Meets all hands of a pass.
     fn settle(&mut self, book: &Book<N>, mut pass: Pass<N>)
-        ensures settled { IsSettled self.old.history pass }
+        ensures settled { IsSettled self.old pass }
         ensures same { self.new ≡ self.old }
     {
         self.meet(book, &mut pass);
@@ -39,7 +38,7 @@ impl<N: Names> Sequencer<N> {
     // Meets one hand.
     fn meet_hand(&mut self, book: &Book<N>, hand: &mut Hand<N>)
         requires { hand.old.hand < hands_of N.callers N.spare_hands }
-        ensures stands { Stands self.old.history hand.old.hand hand.old.notes }
+        ensures heard { IsHeard self.old hand.old }
         ensures same { self.new ≡ self.old }
         ensures hand { hand.new ≡ hand.old }
     {

@@ -1,10 +1,10 @@
 //! Laws of the definitions. Each is a function with an empty body, whose contract is the law.
 
-ghost use Rattle.std.specs.Prelude.{◌≡◌, ℕ, List, [], ◌∷◌, ◌++◌, take, drop, slice_get, Some};
+ghost use Rattle.std.specs.Prelude.{◌≡◌, ℕ, ◌<◌, All, List, [], ◌∷◌, ◌++◌, take, drop, slice_get, Some};
 ghost use mathlib.Core.List.{IsPrefix};
 ghost use Rattle.ecp_book.specs.Logs.{Log};
 ghost use Rattle.ecp_entry.specs.declared.entry.Entry.{Entry};
-ghost use Rattle.ecp_entry.specs.Told.{items_by, by_hand};
+ghost use Rattle.ecp_entry.specs.Told.{items_by, by_hand, made_from};
 ghost use Rattle.ecp_sequencer.specs.Notes.{Call, note, point_of, says_of, beginning_of, call_from};
 ghost use Rattle.ecp_sequencer.specs.Facts.{no_facts, after_note, facts_of, entries_noted};
 ghost use Rattle.ecp_sequencer.specs.Histories.{Stands};
@@ -27,6 +27,13 @@ pub fn calls_are_read_back()
 pub fn entries_stand_past_the_notes_before_them()
     ensures { (history notes : Log) (hand i : ℕ) (x : List ℕ) → Stands history hand notes → slice_get notes i ≡ Some x →
         entries_noted notes ≡ entries_noted (take i notes) ++ items_by hand (drop (point_of x) history) }
+{}
+
+/// A call with nothing noted since it began has no entry: those of its hand are of calls with smaller numbers.
+pub fn a_call_that_began_has_no_entry()
+    ensures { (history notes : Log) (hand : ℕ) (c : Call) →
+        Stands history hand notes → (facts_of notes).call ≡ Some c → (facts_of notes).since ≡ [] →
+        All (λ x. (made_from x).entry.line.call < c.number) (entries_noted notes) }
 {}
 
 /// A pass that knows its own entries and does nothing steps.

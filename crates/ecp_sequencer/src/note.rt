@@ -31,16 +31,16 @@ impl<'a> Entered for Entering<'a> {
 
 /// That a call began.
 #[derive(Clone, Copy)]
-pub(crate) struct Beginning {
+pub(crate) struct Beginning<'a> {
     pub(crate) number: u32,
-    pub(crate) deed: Deed,
+    pub(crate) deed: &'a Deed,
 }
 
-impl Entered for Beginning {
+impl<'a> Entered for Beginning<'a> {
     ghost use Rattle.ecp_sequencer.specs.Notes.{beginning_of};
     ghost use Rattle.ecp_sequencer.specs.Steps.{call_with};
 
-    ghost item = { λ b. beginning_of (call_with b.number b.deed) };
+    ghost item = { λ b. beginning_of (call_with b.number b.deed.now) };
 }
 
 /// A note: what a hand notes, how long the history is before it, and the hand's room after it.

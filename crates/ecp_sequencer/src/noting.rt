@@ -39,10 +39,14 @@ impl<N: Names> Sequencer<N> {
         desk.note(
             book,
             &mut pass.hand,
-            &Beginning { number, deed },
+            &Beginning {
+                number,
+                deed: &deed,
+            },
             point,
             ROOM,
         );
+        pass.deed = Some(deed);
         self.taken = taken;
         Ok(())
     }

@@ -6,34 +6,36 @@ ghost use Rattle.ecp_sequencer.specs.Facts.{entries_noted};
 
 use crate::hand::Hand;
 use ecp_book::{Book, Names, Tag};
+use ecp_entry::Deed;
 use ecp_shape::limits::MAX_SESSIONS;
 use std::marker::Model;
 
 /// The token of a caller: how many calls it made, a front, and its hands.
 ///
-/// A front is a beginning of the history. The caller's own hand makes its calls; the spare ones are held for workers. A
-/// pass may go to another thread.
+/// A front is a beginning of the history. The caller's own hand makes its calls; the spare ones are held for workers. What
+/// the open call asks for is kept too. A pass may go to another thread.
 #[derive(Drop)]
 pub struct Pass<N: Names> {
     pub(crate) caller: u8,
     pub(crate) calls: u32,
+    pub(crate) deed: Option<Deed>,
     pub(crate) front: Tag<N>,
     pub(crate) hand: Hand<N>,
     pub(crate) spare: Vec<Hand<N>>,
 }
 
 impl<N: Names> Model for Pass<N> {
-    ghost use Rattle.ecp_sequencer.specs.Passes.{PassState, IsPass, pass_seen};
+    ghost use Rattle.ecp_sequencer.specs.Passes.{AsksFor, IsPass, PassState, pass_seen};
 
     ghost Value = { PassState };
 
     ghost view = { λ p. pass_seen p.caller p.calls p.front.items p.hand p.spare.items };
 
-    ghost invariant = { λ p. IsPass N.callers N.spare_hands p.front.log (pass_seen p.caller p.calls p.front.items p.hand p.spare.items) };
+    ghost invariant = { λ p. IsPass N.callers N.spare_hands p.front.log (pass_seen p.caller p.calls p.front.items p.hand p.spare.items) × AsksFor p.hand.notes p.deed };
 }
 
 impl<N: Names> Pass<N> {
-    ghost use Rattle.ecp_sequencer.specs.Passes.{longer};
+    ghost use Rattle.ecp_sequencer.specs.Passes.{AsksFor, longer};
 
     /// The number of its caller, from 0.
     pub fn caller(&self) -> u8
@@ -48,6 +50,13 @@ impl<N: Names> Pass<N> {
         ensures { result ≡ self.now.calls }
     {
         self.calls
+    }
+
+    /// What the open call asks for, where there is one.
+    pub fn deed(&self) -> Option<Deed>
+        ensures { AsksFor self.now.notes result }
+    {
+        self.deed
     }
 
     /// A copy of the front.

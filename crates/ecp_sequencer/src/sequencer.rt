@@ -1,6 +1,8 @@
 ghost use Rattle.std.specs.Prelude.{◌≡◌, ◌<◌, [], length};
+ghost use mathlib.Core.List.{IsPrefix};
 ghost use Rattle.ecp_shape.specs.declared.limits.TheConstants.{MAX_SESSIONS};
-ghost use Rattle.ecp_sequencer.specs.Hands.{hands_of};
+ghost use Rattle.ecp_book.specs.Logs.{history_log};
+ghost use Rattle.ecp_sequencer.specs.Hands.{hands_of, own_hand};
 ghost use Rattle.ecp_sequencer.specs.Histories.{IsKept};
 ghost use Rattle.ecp_sequencer.specs.Sequencers.{Agrees};
 ghost use Rattle.ecp_sequencer.specs.Steps.{Event};
@@ -50,12 +52,23 @@ impl<N: Names> Sequencer<N> {
         ensures agree { Agrees self.old pass.old }
         ensures kept { IsKept N.shape N.told N.callers N.spare_hands self.old.history self.old.notes }
         ensures session { pass.old.caller < MAX_SESSIONS }
+        ensures own { pass.old.hand ≡ own_hand N.spare_hands pass.old.caller }
         ensures in_range { pass.old.hand < hands_of N.callers N.spare_hands }
         ensures same { self.new ≡ self.old }
         ensures pass { pass.new ≡ pass.old }
     {
         book.meet(&mut self.keeper, &mut pass.front);
         self.desks[usize::from(pass.hand.number())].meet(book, &mut pass.hand);
+    }
+
+    /// Shows that a front begins the history. Changes nothing.
+    pub fn meet_front(&mut self, book: &Book<N>, front: &mut Tag<N>)
+        requires { front.old.log ≡ history_log }
+        ensures begins { IsPrefix front.old.items self.old.history }
+        ensures same { self.new ≡ self.old }
+        ensures front { front.new ≡ front.old }
+    {
+        book.meet(&mut self.keeper, front);
     }
 
     /// Makes the front the whole history, and notes nothing. Takes no memory.

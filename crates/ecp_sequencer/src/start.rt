@@ -87,6 +87,7 @@ fn next_pass<N: Names>(
     Ok(Pass {
         caller,
         calls: 0,
+        deed: None,
         front,
         hand,
         spare: held,

@@ -14,6 +14,7 @@ use std::alloc::Global;
 use std::marker::Brand;
 use std::process::Abort;
 use std::test::Fail;
+use std::thread::{Threads, join};
 
 /// The first entry of a history, which stores a file of these bytes.
 #[derive(Drop)]
@@ -266,7 +267,7 @@ fn one_helper_gives_its_slices(rt: HostRuntime) -> Result<(), Fail> {
     own_slices::<Brand, _, _>(&rt, alloc, blank, store)
 }
 
-fn own_slices<N: Names, S: Store + Drop, R: Abort>(
+fn own_slices<N: Names + Send + Sync, S: Store + Drop, R: Threads + Abort + Sync>(
     rt: &R,
     alloc: Global,
     blank: Blank,
@@ -290,7 +291,7 @@ fn own_slices<N: Names, S: Store + Drop, R: Abort>(
     last_slice(rt, alloc, &book, &mut plan, &mut node)
 }
 
-fn last_slice<N: Names, S: Store + Drop, R: Abort>(
+fn last_slice<N: Names + Send + Sync, S: Store + Drop, R: Threads + Abort + Sync>(
     rt: &R,
     alloc: Global,
     book: &Book<N>,
@@ -307,7 +308,14 @@ fn last_slice<N: Names, S: Store + Drop, R: Abort>(
     let mut byte = [0];
     visit(rt, book, &mut message, node, &mut byte)?;
     is_at(rt, &message, 1, 1, Next::Home(0), &[10]);
-    whole_slice(rt, book, &mut message, node)
+    whole_slice(rt, book, &mut message, node)?;
+    elsewhere(rt, message);
+    Ok(())
+}
+
+fn elsewhere<N: Names + Send + Sync, R: Threads + Abort + Sync>(rt: &R, message: SliceMsg<N>) {
+    let (there, here) = join(rt, move || message.at(), || 1);
+    assert_eq!(rt; there, here);
 }
 
 fn whole_slice<N: Names, S: Store + Drop, R: Abort>(

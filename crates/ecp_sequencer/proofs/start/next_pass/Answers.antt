@@ -1,10 +1,11 @@
-use Rattle.std.proofs.Common.{◌≡◌, ◌∙◌, ℕ, ◌+◌, List, length, vec_len, [], ap, sym, subst, arith}
+use Rattle.std.proofs.Common.{◌≡◌, ◌∙◌, ℕ, ◌+◌, List, length, vec_len, [], None, ap, sym, subst, arith}
 use Rattle.std.specs.Vec.Iter.{into_iter_items}
 use Rattle.ecp_sequencer.specs.Hands.{own_hand}
 use Rattle.ecp_book.specs.Logs.{Known}
-use Rattle.ecp_sequencer.specs.Passes.{HandNotes, PassState, IsPass, pass_seen, first_pass, new_hands}
+use Rattle.ecp_sequencer.specs.Passes.{AsksFor, HandNotes, PassState, IsPass, pass_seen, first_pass, new_hands}
 use Rattle.ecp_sequencer.specs.Sequencers.{DeskState, AreTies, new_desks}
 use Rattle.ecp_sequencer.proofs.StartLaws.{hands_fit, length-new_desks, first_pass_is}
+use Rattle.ecp_sequencer.proofs.AskLaws.{asks_none}
 use Rattle.ecp_sequencer.proofs.start.next_pass.Goals as goal
 
 -- a hand that noted nothing
@@ -56,10 +57,12 @@ invariant_of-result g c =
     ∙ ap (λ (h : HandNotes). pass_seen c.args.caller 0 [] h held) is_hand
     ∙ ap (λ (hs : List HandNotes). pass_seen c.args.caller 0 [] first hs) (c.loop.invariant.held ∙ ap (new_hands (own_hand c.args.spare c.args.caller + 1)) all) in
     let fresh : IsPass g.N.Names.callers c.args.spare 0 (first_pass c.args.spare c.args.caller) =
-    first_pass_is g.N.Names.callers c.args.spare c.args.caller c.requires.caller.0 c.requires.caller.1 in
-    subst (λ (n : ℕ). IsPass g.N.Names.callers n c.args.front.log (pass_seen c.args.caller 0 c.args.front.items hand held)) c.requires.spare.0
-    (subst (λ (l : ℕ). IsPass g.N.Names.callers c.args.spare l (pass_seen c.args.caller 0 c.args.front.items hand held)) (sym (ap (λ (k : Known). k.log) c.requires.front))
-    (subst (λ (p : PassState). IsPass g.N.Names.callers c.args.spare 0 p) (sym whole) fresh))
+    first_pass_is g.N.Names.callers c.args.spare c.args.caller c.requires.caller.0 c.requires.caller.1 in (
+      subst (λ (n : ℕ). IsPass g.N.Names.callers n c.args.front.log (pass_seen c.args.caller 0 c.args.front.items hand held)) c.requires.spare.0
+          (subst (λ (l : ℕ). IsPass g.N.Names.callers c.args.spare l (pass_seen c.args.caller 0 c.args.front.items hand held)) (sym (ap (λ (k : Known). k.log) c.requires.front))
+          (subst (λ (p : PassState). IsPass g.N.Names.callers c.args.spare 0 p) (sym whole) fresh)),
+      subst (λ (h : HandNotes). AsksFor h.notes None) (sym is_hand) (asks_none None),
+    )
 
 pub returns-clause-pass : goal.returns-clause-pass
 returns-clause-pass g c =

@@ -13,6 +13,8 @@ invariant_of-self g c =
     omega (arith, c.if-len.true, c.len.ensures, c.len-2.ensures, ap (λ (k : Known). length k.items) old, ap (λ (k : Known). length k.items) c.meet_tags.ensures.b) in
     let longer : IsPrefix c.self.inside.front.items c.replace-old.new.dest.items =
     subst (λ (k : Known). IsPrefix c.self.inside.front.items k.items) (sym now)
-    (shorter_is_prefix c.self.inside.front.items c.args.front.now.items c.meet_tags.ensures.prefix less) in
-    pass_longer g.N.Names.callers g.N.Names.spare_hands c.self.inside.front.log c.replace-old.new.dest.log c.self.inside.caller c.self.inside.calls c.self.inside.calls
-    c.self.inside.front.items c.replace-old.new.dest.items c.self.inside.hand c.self.inside.spare.items c.self.invariant (ap (λ (k : Known). k.log) now ∙ c.requires) longer (omega arith)
+    (shorter_is_prefix c.self.inside.front.items c.args.front.now.items c.meet_tags.ensures.prefix less) in (
+      pass_longer g.N.Names.callers g.N.Names.spare_hands c.self.inside.front.log c.replace-old.new.dest.log c.self.inside.caller c.self.inside.calls c.self.inside.calls
+          c.self.inside.front.items c.replace-old.new.dest.items c.self.inside.hand c.self.inside.spare.items c.self.invariant.0 (ap (λ (k : Known). k.log) now ∙ c.requires) longer (omega arith),
+      c.self.invariant.1,
+    )

@@ -14,10 +14,10 @@ use Rattle.ecp_sequencer.proofs.sequencer.Sequencer.close.Goals as goal
 pub loop-pass-preserved : goal.loop-pass-preserved
 loop-pass-preserved g c =
     let i = c.loop-pass.invariant in
-    let one = subst (λ (s : SequencerState). IsSettled s.history c.in-Some.pass) i.same c.settle.ensures.settled in
+    let one = subst (λ (s : SequencerState). IsSettled s c.in-Some.pass) i.same c.settle.ensures.settled in
     record {
       same = c.settle.ensures.same ∙ i.same;
-      settled = All-push (IsSettled c.args.self.history) c.loop-pass.yielded c.in-Some.pass i.settled one;
+      settled = All-push (IsSettled c.args.self) c.loop-pass.yielded c.in-Some.pass i.settled one;
     }
 
 pub returns : goal.returns
@@ -35,5 +35,5 @@ returns g c =
       made = kept.made;
       none = λ hand past. let apart : hand ≢ hands = λ same. omega arith in none_past s.history s.notes hands hand kept.hands past (kept.stand hand apart);
       printed = c.self.invariant.lines ∙ ap (λ (t : SequencerState). lines_of t.history) is;
-      settled = subst (All (IsSettled s.history)) (sym (map-id c.loop-pass.yielded) ∙ ended.0) c.loop-pass.invariant.settled;
+      settled = subst (All (IsSettled s)) (sym (map-id c.loop-pass.yielded) ∙ ended.0) c.loop-pass.invariant.settled;
     }

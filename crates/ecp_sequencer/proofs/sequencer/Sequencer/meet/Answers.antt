@@ -9,7 +9,7 @@ use Rattle.ecp_sequencer.proofs.sequencer.Sequencer.meet.Goals as goal
 pub returns-clause-agree : goal.returns-clause-agree
 returns-clause-agree g c =
     let is = c.self.invariant in
-    let ps = c.pass.invariant in
+    let ps = c.pass.invariant.0 in
     let history = c.self.inside.keeper.items in
     let desks = c.self.inside.desks.items in
     let own = c.pass.inside.hand in

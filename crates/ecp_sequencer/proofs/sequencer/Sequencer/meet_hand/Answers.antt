@@ -1,13 +1,14 @@
 use Rattle.std.proofs.Common.{◌≡◌, ◌≢◌, ◌∙◌, ℕ, ◌<◌, length, ap, sym, subst, arith}
 use Rattle.ecp_book.specs.Logs.{Log}
 use Rattle.ecp_sequencer.specs.Hands.{hands_of}
+use Rattle.ecp_sequencer.specs.Closed.{IsHeard}
 use Rattle.ecp_sequencer.specs.Histories.{Stands, notes_at}
 use Rattle.ecp_sequencer.specs.Sequencers.{DeskState, SequencerState, notes_of}
 use Rattle.ecp_sequencer.proofs.DeskLaws.{has_desk, desk_notes}
 use Rattle.ecp_sequencer.proofs.sequencer.Sequencer.meet_hand.Goals as goal
 
-pub returns-clause-stands : goal.returns-clause-stands
-returns-clause-stands g c =
+pub returns-clause-heard : goal.returns-clause-heard
+returns-clause-heard g c =
     let is = c.self.invariant in
     let history = c.self.inside.keeper.items in
     let desks = c.self.inside.desks.items in
@@ -21,5 +22,5 @@ returns-clause-stands g c =
     let notes : notes_at (notes_of desks) hand.hand ≡ hand.notes =
     ap (notes_at (notes_of desks)) (sym at) ∙ desk_notes desks n d here c.index_mut.ensures.value ∙ c.meet.ensures.same in
     let apart : hand.hand ≢ hands_of g.N.Names.callers g.N.Names.spare_hands = λ same. omega (arith, c.requires) in
-    subst (λ (t : SequencerState). Stands t.history hand.hand hand.notes) c.self.view_is
-    (subst (λ (ns : Log). Stands history hand.hand ns) notes (is.kept.stand hand.hand apart))
+    subst (λ (t : SequencerState). IsHeard t hand) c.self.view_is
+    (record { heard = notes; stands = subst (λ (ns : Log). Stands history hand.hand ns) notes (is.kept.stand hand.hand apart) })

@@ -1,4 +1,6 @@
-use Rattle.std.proofs.Common.{◌-◌, ◌∙◌, arith}
+use Rattle.std.proofs.Common.{◌-◌, ◌∙◌, sym, subst, arith}
+use Rattle.ecp_sequencer.specs.Passes.{AsksFor, HandNotes}
+use Rattle.ecp_sequencer.proofs.AskLaws.{asks_other}
 use Rattle.ecp_sequencer.proofs.EventLaws.{noted_one}
 use Rattle.ecp_sequencer.proofs.sequencer.Sequencer.note.Goals as goal
 
@@ -11,7 +13,7 @@ invariant_of-self g c =
     noted_one g.N.Names.shape g.N.Names.told g.N.Names.callers g.N.Names.spare_hands c.args.self.now c.args.pass.now c.self.inside.keeper.log c.pass.inside.front.log c.self.inside.taken
     c.self.inside.keeper.items c.self.inside.journal c.self.inside.desks.items c.pass.inside.caller c.pass.inside.calls c.pass.inside.front.items c.pass.inside.hand c.note.new.hand
     c.pass.inside.spare.items c.from.result c.index_mut-desk.result.now c.note.new.self c.len-point.result (c.room-room.result - 1) (g.E.Entered.item c.args.what.now)
-    c.self.invariant (c.self.view_is ∙ c.renew.ensures.same) c.pass.invariant (c.pass.view_is ∙ c.renew.ensures.pass) c.requires.agree
+    c.self.invariant (c.self.view_is ∙ c.renew.ensures.same) c.pass.invariant.0 (c.pass.view_is ∙ c.renew.ensures.pass) c.requires.agree
     (omega (arith, c.from.ensures, c.number.ensures)) c.index_mut-desk.ensures.value c.note.ensures.noted c.note.ensures.hand c.len-point.ensures
     c.room-room.ensures.counted (omega (arith, c.room-room.ensures.room)) c.requires.room c.requires.kind in
     done.0
@@ -22,10 +24,13 @@ invariant_of-pass g c =
     noted_one g.N.Names.shape g.N.Names.told g.N.Names.callers g.N.Names.spare_hands c.args.self.now c.args.pass.now c.self.inside.keeper.log c.pass.inside.front.log c.self.inside.taken
     c.self.inside.keeper.items c.self.inside.journal c.self.inside.desks.items c.pass.inside.caller c.pass.inside.calls c.pass.inside.front.items c.pass.inside.hand c.note.new.hand
     c.pass.inside.spare.items c.from.result c.index_mut-desk.result.now c.note.new.self c.len-point.result (c.room-room.result - 1) (g.E.Entered.item c.args.what.now)
-    c.self.invariant (c.self.view_is ∙ c.renew.ensures.same) c.pass.invariant (c.pass.view_is ∙ c.renew.ensures.pass) c.requires.agree
+    c.self.invariant (c.self.view_is ∙ c.renew.ensures.same) c.pass.invariant.0 (c.pass.view_is ∙ c.renew.ensures.pass) c.requires.agree
     (omega (arith, c.from.ensures, c.number.ensures)) c.index_mut-desk.ensures.value c.note.ensures.noted c.note.ensures.hand c.len-point.ensures
-    c.room-room.ensures.counted (omega (arith, c.room-room.ensures.room)) c.requires.room c.requires.kind in
-    done.1
+    c.room-room.ensures.counted (omega (arith, c.room-room.ensures.room)) c.requires.room c.requires.kind in (
+      done.1,
+      subst (λ (h : HandNotes). AsksFor h.notes c.pass.inside.deed) (sym c.note.ensures.hand)
+          (asks_other c.pass.inside.hand.notes c.len-point.result (c.room-room.result - 1) (g.E.Entered.item c.args.what.now) c.pass.inside.deed c.requires.kind c.pass.invariant.1),
+    )
 
 pub returns-clause-event : goal.returns-clause-event
 returns-clause-event g c =
@@ -33,7 +38,7 @@ returns-clause-event g c =
     noted_one g.N.Names.shape g.N.Names.told g.N.Names.callers g.N.Names.spare_hands c.args.self.now c.args.pass.now c.self.inside.keeper.log c.pass.inside.front.log c.self.inside.taken
     c.self.inside.keeper.items c.self.inside.journal c.self.inside.desks.items c.pass.inside.caller c.pass.inside.calls c.pass.inside.front.items c.pass.inside.hand c.note.new.hand
     c.pass.inside.spare.items c.from.result c.index_mut-desk.result.now c.note.new.self c.len-point.result (c.room-room.result - 1) (g.E.Entered.item c.args.what.now)
-    c.self.invariant (c.self.view_is ∙ c.renew.ensures.same) c.pass.invariant (c.pass.view_is ∙ c.renew.ensures.pass) c.requires.agree
+    c.self.invariant (c.self.view_is ∙ c.renew.ensures.same) c.pass.invariant.0 (c.pass.view_is ∙ c.renew.ensures.pass) c.requires.agree
     (omega (arith, c.from.ensures, c.number.ensures)) c.index_mut-desk.ensures.value c.note.ensures.noted c.note.ensures.hand c.len-point.ensures
     c.room-room.ensures.counted (omega (arith, c.room-room.ensures.room)) c.requires.room c.requires.kind in
     done.2

@@ -1,9 +1,10 @@
-use Rattle.std.proofs.Common.{◌∙◌, ℕ, List, length, ap, arith}
+use Rattle.std.proofs.Common.{◌∙◌, ℕ, List, length, ap, sym, subst, arith}
 use Rattle.ecp_sequencer.specs.declared.limits.TheConstants.{ROOM}
 use Rattle.ecp_sequencer.specs.Facts.{HandFacts, facts_of}
-use Rattle.ecp_sequencer.specs.Passes.{PassState}
+use Rattle.ecp_sequencer.specs.Passes.{AsksFor, HandNotes, PassState}
 use Rattle.ecp_sequencer.specs.Sequencers.{SequencerState}
 use Rattle.ecp_sequencer.proofs.NoteLaws.{facts-other}
+use Rattle.ecp_sequencer.proofs.AskLaws.{asks_other}
 use Rattle.ecp_sequencer.proofs.KeptLaws.{fits_other}
 use Rattle.ecp_sequencer.proofs.EventLaws.{noted_full}
 use Rattle.ecp_sequencer.proofs.sequencer.Sequencer.note_taking.Goals as goal
@@ -18,11 +19,11 @@ invariant_of-self-2 g c =
     noted_full g.N.Names.shape g.N.Names.told g.N.Names.callers g.N.Names.spare_hands c.args.self.now c.args.pass.now c.self.inside.keeper.log c.pass.inside.front.log c.self.inside.taken
     c.self.inside.keeper.items c.self.inside.journal c.make_room.new.journal c.self.inside.desks.items c.pass.inside.caller c.pass.inside.calls c.pass.inside.calls c.pass.inside.front.items c.pass.inside.hand
     c.note.new.hand c.pass.inside.spare.items c.from.result c.in_ok-taken.taken c.index_mut-desk.result.now c.note.new.self c.len-point.result (g.E.Entered.item c.args.what.now)
-    c.self.invariant (c.self.view_is ∙ c.renew.ensures.same) c.pass.invariant (c.pass.view_is ∙ c.renew.ensures.pass) c.requires.agree
+    c.self.invariant (c.self.view_is ∙ c.renew.ensures.same) c.pass.invariant.0 (c.pass.view_is ∙ c.renew.ensures.pass) c.requires.agree
     (omega (arith, c.from.ensures, c.number.ensures)) c.index_mut-desk.ensures.value c.note.ensures.noted c.note.ensures.hand c.len-point.ensures
     c.make_room.ensures.lines c.in_ok-taken.ensures.room c.in_ok-taken.ensures.spare c.in_ok-taken.ensures.history
     (fits_other v.hand s.history v.notes ROOM what c.requires.agree.entered c.requires.kind) (ap (λ (f : HandFacts). f.entries) facts)
-    (omega (arith, c.pass.invariant.numbered, ap (λ (f : HandFacts). f.calls) facts, ap (λ (p : PassState). (facts_of p.notes).calls) (c.pass.view_is ∙ c.renew.ensures.pass))) in
+    (omega (arith, c.pass.invariant.0.numbered, ap (λ (f : HandFacts). f.calls) facts, ap (λ (p : PassState). (facts_of p.notes).calls) (c.pass.view_is ∙ c.renew.ensures.pass))) in
     done.0
 
 pub invariant_of-pass : goal.invariant_of-pass
@@ -35,12 +36,15 @@ invariant_of-pass g c =
     noted_full g.N.Names.shape g.N.Names.told g.N.Names.callers g.N.Names.spare_hands c.args.self.now c.args.pass.now c.self.inside.keeper.log c.pass.inside.front.log c.self.inside.taken
     c.self.inside.keeper.items c.self.inside.journal c.make_room.new.journal c.self.inside.desks.items c.pass.inside.caller c.pass.inside.calls c.pass.inside.calls c.pass.inside.front.items c.pass.inside.hand
     c.note.new.hand c.pass.inside.spare.items c.from.result c.in_ok-taken.taken c.index_mut-desk.result.now c.note.new.self c.len-point.result (g.E.Entered.item c.args.what.now)
-    c.self.invariant (c.self.view_is ∙ c.renew.ensures.same) c.pass.invariant (c.pass.view_is ∙ c.renew.ensures.pass) c.requires.agree
+    c.self.invariant (c.self.view_is ∙ c.renew.ensures.same) c.pass.invariant.0 (c.pass.view_is ∙ c.renew.ensures.pass) c.requires.agree
     (omega (arith, c.from.ensures, c.number.ensures)) c.index_mut-desk.ensures.value c.note.ensures.noted c.note.ensures.hand c.len-point.ensures
     c.make_room.ensures.lines c.in_ok-taken.ensures.room c.in_ok-taken.ensures.spare c.in_ok-taken.ensures.history
     (fits_other v.hand s.history v.notes ROOM what c.requires.agree.entered c.requires.kind) (ap (λ (f : HandFacts). f.entries) facts)
-    (omega (arith, c.pass.invariant.numbered, ap (λ (f : HandFacts). f.calls) facts, ap (λ (p : PassState). (facts_of p.notes).calls) (c.pass.view_is ∙ c.renew.ensures.pass))) in
-    done.1
+    (omega (arith, c.pass.invariant.0.numbered, ap (λ (f : HandFacts). f.calls) facts, ap (λ (p : PassState). (facts_of p.notes).calls) (c.pass.view_is ∙ c.renew.ensures.pass))) in (
+      done.1,
+      subst (λ (h : HandNotes). AsksFor h.notes c.pass.inside.deed) (sym c.note.ensures.hand)
+          (asks_other c.pass.inside.hand.notes c.len-point.result ROOM what c.pass.inside.deed c.requires.kind c.pass.invariant.1),
+    )
 
 pub returns-clause-ok : goal.returns-clause-ok
 returns-clause-ok g c =
@@ -52,9 +56,9 @@ returns-clause-ok g c =
     noted_full g.N.Names.shape g.N.Names.told g.N.Names.callers g.N.Names.spare_hands c.args.self.now c.args.pass.now c.self.inside.keeper.log c.pass.inside.front.log c.self.inside.taken
     c.self.inside.keeper.items c.self.inside.journal c.make_room.new.journal c.self.inside.desks.items c.pass.inside.caller c.pass.inside.calls c.pass.inside.calls c.pass.inside.front.items c.pass.inside.hand
     c.note.new.hand c.pass.inside.spare.items c.from.result c.in_ok-taken.taken c.index_mut-desk.result.now c.note.new.self c.len-point.result (g.E.Entered.item c.args.what.now)
-    c.self.invariant (c.self.view_is ∙ c.renew.ensures.same) c.pass.invariant (c.pass.view_is ∙ c.renew.ensures.pass) c.requires.agree
+    c.self.invariant (c.self.view_is ∙ c.renew.ensures.same) c.pass.invariant.0 (c.pass.view_is ∙ c.renew.ensures.pass) c.requires.agree
     (omega (arith, c.from.ensures, c.number.ensures)) c.index_mut-desk.ensures.value c.note.ensures.noted c.note.ensures.hand c.len-point.ensures
     c.make_room.ensures.lines c.in_ok-taken.ensures.room c.in_ok-taken.ensures.spare c.in_ok-taken.ensures.history
     (fits_other v.hand s.history v.notes ROOM what c.requires.agree.entered c.requires.kind) (ap (λ (f : HandFacts). f.entries) facts)
-    (omega (arith, c.pass.invariant.numbered, ap (λ (f : HandFacts). f.calls) facts, ap (λ (p : PassState). (facts_of p.notes).calls) (c.pass.view_is ∙ c.renew.ensures.pass))) in
+    (omega (arith, c.pass.invariant.0.numbered, ap (λ (f : HandFacts). f.calls) facts, ap (λ (p : PassState). (facts_of p.notes).calls) (c.pass.view_is ∙ c.renew.ensures.pass))) in
     done.2

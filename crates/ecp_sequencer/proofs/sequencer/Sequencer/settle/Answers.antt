@@ -1,14 +1,14 @@
 use Rattle.std.proofs.Common.{◌∙◌, subst}
 use Rattle.std.proofs.lemmas.List.Elements.{All-push}
-use Rattle.ecp_sequencer.specs.Closed.{StandsFor}
+use Rattle.ecp_sequencer.specs.Closed.{IsHeard}
 use Rattle.ecp_sequencer.specs.Sequencers.{SequencerState}
 use Rattle.ecp_sequencer.proofs.sequencer.Sequencer.settle.Goals as goal
 
 pub loop-hand-preserved : goal.loop-hand-preserved
 loop-hand-preserved g c =
     let i = c.loop-hand.invariant in
-    let one = subst (λ (s : SequencerState). StandsFor s.history c.in-Some.hand) i.same c.meet_hand.ensures.stands in
+    let one = subst (λ (s : SequencerState). IsHeard s c.in-Some.hand) i.same c.meet_hand.ensures.heard in
     record {
       same = c.meet_hand.ensures.same ∙ i.same;
-      stand = All-push (StandsFor c.args.self.now.history) c.loop-hand.yielded c.in-Some.hand i.stand one;
+      heard = All-push (IsHeard c.args.self.now) c.loop-hand.yielded c.in-Some.hand i.heard one;
     }
