@@ -1,0 +1,58 @@
+use Rattle.std.proofs.Common.{◌≡◌, ℕ, length, sym, ◌∙◌, ap, subst}
+use Rattle.ecp_entry.specs.declared.act.Act.{Act}
+use Rattle.ecp_entry.specs.declared.deed.Deed.TheVariants.{Lose}
+use Rattle.ecp_entry.specs.Told.{history_of}
+use Rattle.ecp_history.specs.Fronts.{told_table}
+use Rattle.ecp_history.specs.Legal.{MayFollow}
+use Rattle.ecp_catalog.specs.Catalogs.{CatalogState}
+use Rattle.ecp_sequencer.specs.Passes.{PassState}
+use Rattle.ecp_sequencer.specs.Sequencers.{SequencerState}
+use Rattle.ecp_coord.specs.Calls.{Ends, ended}
+use Rattle.ecp_coord.specs.Coords.{CoordState, IsCoord}
+use Rattle.ecp_coord.specs.Losing.{CanLose, act_of, after_losing, found_by_losing}
+use Rattle.ecp_coord.proofs.LoseLaws.{lose_goes, lose_can, lose_kept}
+use Rattle.ecp_coord.proofs.coord.Coord.lose.Goals as goal
+
+pub end_call-requires-clause-follows : goal.end_call-requires-clause-follows
+end_call-requires-clause-follows g c =
+    let shape = g.N.Names.shape in
+    let told = g.N.Names.told in
+    let s : SequencerState = c.self.inside.sequencer in
+    let found_is = c.find-found.ensures shape told (history_of s.history) c.self.invariant.outline in
+    let here = lose_goes shape told s c.args.pass.now c.self.inside.catalog c.args.node c.find-found.result c.self.invariant.outline c.self.invariant.each_node c.meet.ensures.session found_is in
+    subst (λ (a : Act). MayFollow shape told (history_of c.meet.new.self.history) (ended c.meet.new.pass (Lose c.args.node) (length c.meet.new.self.history) a)) (sym c.act.ensures)
+    (subst (λ (p : PassState). MayFollow shape told (history_of c.meet.new.self.history) (ended p (Lose c.args.node) (length c.meet.new.self.history) (act_of c.find-found.result))) (sym c.meet.ensures.pass)
+    (subst (λ (x : SequencerState). MayFollow shape told (history_of x.history) (ended c.args.pass.now (Lose c.args.node) (length x.history) (act_of c.find-found.result))) (sym c.meet.ensures.same) here))
+
+pub update-requires : goal.update-requires
+update-requires g c =
+    let shape = g.N.Names.shape in
+    let told = g.N.Names.told in
+    let s : SequencerState = c.self.inside.sequencer in
+    let found_is = c.find-found.ensures shape told (history_of s.history) c.self.invariant.outline in
+    let at : length s.history ≡ c.len-position.result = sym (c.len-position.ensures ∙ ap (λ (x : SequencerState). length x.history) c.meet.ensures.same) in
+    subst (λ (n : ℕ). CanLose c.self.inside.catalog c.find-found.result c.args.node n) at
+    (lose_can shape told g.N.Names.callers g.N.Names.spare_hands c.self.inside.hands c.self.inside.slice s c.args.pass.now c.self.inside.catalog c.self.inside.nodes.items c.args.node c.find-found.result
+    c.self.invariant c.meet.ensures.kept c.meet.ensures.agree c.meet.ensures.in_range c.requires.open found_is)
+
+pub invariant_of-self : goal.invariant_of-self
+invariant_of-self g c =
+    let shape = g.N.Names.shape in
+    let told = g.N.Names.told in
+    let s : SequencerState = c.self.inside.sequencer in
+    let t : SequencerState = c.end_call.new.sequencer in
+    let found_is = c.find-found.ensures shape told (history_of s.history) c.self.invariant.outline in
+    let at : length s.history ≡ c.len-position.result = sym (c.len-position.ensures ∙ ap (λ (x : SequencerState). length x.history) c.meet.ensures.same) in
+    let ends : Ends shape told s c.args.pass.now (Lose c.args.node) (act_of c.find-found.result) t c.end_call.new.pass =
+    subst (λ (a : Act). Ends shape told s c.args.pass.now (Lose c.args.node) a t c.end_call.new.pass) c.act.ensures
+    (subst (λ (p : PassState). Ends shape told s p (Lose c.args.node) c.act.result t c.end_call.new.pass) c.meet.ensures.pass
+    (subst (λ (x : SequencerState). Ends shape told x c.meet.new.pass (Lose c.args.node) c.act.result t c.end_call.new.pass) c.meet.ensures.same c.end_call.ensures)) in
+    let made = lose_kept shape told g.N.Names.callers g.N.Names.spare_hands c.self.inside.hands c.self.inside.slice s t c.args.pass.now c.end_call.new.pass c.self.inside.catalog c.self.inside.nodes.items
+    c.args.node c.find-found.result c.self.invariant c.meet.ensures.kept c.meet.ensures.agree c.meet.ensures.in_range c.requires.open found_is ends in
+    subst (λ (d : CatalogState). IsCoord shape told g.N.Names.callers g.N.Names.spare_hands t d c.self.inside.hands c.self.inside.slice c.self.inside.nodes.items)
+    (ap (λ (n : ℕ). after_losing c.find-found.result c.args.node n c.self.inside.catalog) at ∙ sym c.update.ensures) made
+
+pub returns-clause-answer : goal.returns-clause-answer
+returns-clause-answer g c =
+    c.find-found.ensures g.N.Names.shape g.N.Names.told (history_of c.self.inside.sequencer.history) c.self.invariant.outline
+    ∙ ap (λ (x : CoordState). found_by_losing g.N.Names.shape (told_table g.N.Names.shape x.sequence.history) c.args.node) c.self.view_is

@@ -1,0 +1,38 @@
+-- The open call of a pass, how it begins, and how an event ends it.
+use Rattle.std.specs.Prelude.{◌≡◌, ℕ, ◌-◌, ◌≤◌, Bool, [], ◌∷◌, length, Some}
+use mathlib.Core.List.{IsPrefix}
+use Rattle.ecp_shape.specs.declared.shape.Shape.{Shape}
+use Rattle.ecp_entry.specs.declared.act.Act.{Act}
+use Rattle.ecp_entry.specs.declared.deed.Deed.{Deed}
+use Rattle.ecp_entry.specs.declared.entry.Entry.{Entry}
+use Rattle.ecp_entry.specs.declared.part.Part.TheVariants as part
+use Rattle.ecp_entry.specs.Entries.{deed_name}
+use Rattle.ecp_entry.specs.ReadBack.{line_with, entry_with}
+use Rattle.ecp_sequencer.specs.declared.limits.TheConstants.{ROOM}
+use Rattle.ecp_sequencer.specs.Notes.{note, beginning_of, entering_of}
+use Rattle.ecp_sequencer.specs.Facts.{facts_of, room_noted}
+use Rattle.ecp_sequencer.specs.Passes.{PassState}
+use Rattle.ecp_sequencer.specs.Sequencers.{SequencerState}
+use Rattle.ecp_sequencer.specs.Steps.{Event, call_with}
+
+-- the pass's last `begin` began a call that asks for this, which has not ended, and its hand has room for an entry
+pub record IsOpen (p : PassState) (asked : Deed) : Type 0 where
+  pub begun : 1 ≤ p.calls
+  pub call : (facts_of p.notes).call ≡ Some (call_with (p.calls - 1) asked)
+  pub room : 1 ≤ room_noted p.notes
+
+-- an event by which the pass's next call begins
+abbrev pub Begins : Shape → Bool → SequencerState → PassState → Deed → SequencerState → PassState → Type 0
+Begins shape told s v asked t w = Event shape told s v [] (note (length s.history) ROOM (beginning_of (call_with v.calls asked)) ∷ []) t w
+
+-- the entry that ends the open call of a pass at a position, of which it speaks. It has no bytes
+abbrev pub ended : PassState → Deed → ℕ → Act → Entry
+ended p asked position act = entry_with (line_with p.caller (p.calls - 1) position part.End act) (Some asked) (deed_name (Some asked)) []
+
+-- An event that ends the open call of a pass with this act: the history, which the pass's front begins, grows by the one entry that says
+-- so, and the pass's hand notes it, in one place of its room
+pub record Ends (shape : Shape) (told : Bool) (s : SequencerState) (v : PassState) (asked : Deed) (act : Act) (t : SequencerState) (w : PassState) : Type 0 where
+  pub event : Event shape told s v (ended v asked (length s.history) act ∷ [])
+      (note (length s.history) (room_noted v.notes - 1) (entering_of v.hand (ended v asked (length s.history) act)) ∷ []) t w
+  pub begins : IsPrefix v.front s.history
+  pub calls : w.calls ≡ v.calls

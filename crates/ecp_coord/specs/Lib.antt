@@ -1,0 +1,5 @@
+pub mod Calls
+pub mod Losing
+pub mod Coords
+pub mod Budget
+pub mod Rounds

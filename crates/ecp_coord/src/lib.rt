@@ -1,0 +1,30 @@
+//! The coordinator: each of its events appends to one history, which stays legal, and answers by the plain table that
+//! this history makes.
+//!
+//! A [`Coord`] is three things: the sequencer (`ecp_sequencer`), which alone adds to the history and ties each hand to it;
+//! the catalog (`ecp_catalog`), which is the outline of that history and has every answer; and the stamps, which say when
+//! each node helped last. Beside them it has a tag on the log of each node. It has no byte of a file.
+//!
+//! An event does four things, under one hold of the coordinator's lock: it meets the pass, decides by the catalog, enters
+//! what it decided, and brings the catalog up to the longer history. The decisions are functions over the catalog alone.
+//!
+//! The layer above may rely on what each event says of the pass (`specs/Calls.antt`, and `Event` and `Called` of
+//! `ecp_sequencer`), on its answer by the table of the history before it (`specs/Losing.antt`), and on what `settle` and
+//! `close` teach at the end. Room is taken by `new` and `begin` alone.
+#![tactic(auto)]
+
+mod beginning;
+mod closing;
+mod coord;
+mod ending;
+mod losing;
+mod node_act;
+mod start;
+
+pub use coord::Coord;
+pub use ecp_sequencer::Pass;
+pub use ecp_store::NoMemory;
+pub use node_act::NodeAct;
+
+#[cfg(test)]
+mod tests;
