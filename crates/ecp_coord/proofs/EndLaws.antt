@@ -17,7 +17,7 @@ use Rattle.ecp_history.specs.Parts.{IsAlone, refuses}
 use Rattle.ecp_sequencer.specs.Passes.{PassState}
 use Rattle.ecp_coord.specs.Calls.{ended}
 
-one_more : (n m : ℕ) (b : Bool) → n ≤ m → cond (nat_lt 0 n) (n + 1) (cond b 1 0) ≤ suc m
+pub one_more : (n m : ℕ) (b : Bool) → n ≤ m → cond (nat_lt 0 n) (n + 1) (cond b 1 0) ≤ suc m
 one_more n m b le = elim (nat_lt 0 n) as (λ v. cond v (n + 1) (cond b 1 0) ≤ suc m) [
   | true ↦ omega arith
   | false ↦ elim b as (λ v. cond v 1 0 ≤ suc m) [ true ↦ omega arith | false ↦ omega arith ]

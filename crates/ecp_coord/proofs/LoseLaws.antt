@@ -12,22 +12,24 @@ use Rattle.ecp_entry.specs.declared.entry.Entry.{Entry}
 use Rattle.ecp_history.specs.declared.table.node.Node.{Node}
 use Rattle.ecp_history.specs.table.Tables.{PlainTable, is_up, live_on}
 use Rattle.ecp_history.specs.table.Steps.{table_of}
-use Rattle.ecp_history.specs.Counted.{spends_fault}
 use Rattle.ecp_history.specs.Legal.{MayFollow}
 use Rattle.ecp_catalog.specs.Catalogs.{NodeSeen, CatalogState, lost_at, spare_of}
 use Rattle.ecp_catalog.specs.Outline.{IsOutline}
 use Rattle.ecp_catalog.proofs.NodeLaws.{length-changed_at}
 use Rattle.ecp_catalog.proofs.OutlineLaws.{unchanged, lost_outline, losses_behind}
 use Rattle.ecp_sequencer.specs.Passes.{PassState}
-use Rattle.ecp_sequencer.specs.Hands.{hands_of}
-use Rattle.ecp_sequencer.specs.Histories.{IsKept, notes_at}
+use Rattle.ecp_sequencer.specs.Histories.{notes_at}
 use Rattle.ecp_sequencer.specs.Facts.{HandFacts, room_noted}
-use Rattle.ecp_sequencer.specs.Sequencers.{SequencerState, Agrees}
+use Rattle.ecp_sequencer.specs.Sequencers.{SequencerState}
 use Rattle.ecp_sequencer.proofs.NoteLaws.{facts-entered}
-use Rattle.ecp_book.specs.Logs.{Known, Log}
+use Rattle.ecp_book.specs.Logs.{Log}
 use Rattle.ecp_entry.specs.Told.{Made, made_of, made_from, history_of}
-use Rattle.ecp_coord.specs.Coords.{HasRoom, IsCoord, is_losing}
-use Rattle.ecp_coord.proofs.KeepLaws.{entered_kept, tags_kept}
+use Rattle.ecp_sequencer.specs.Steps.{call_with}
+use Rattle.ecp_coord.specs.Coords.{CoordParts, HasRoom, IsCoord, is_losing}
+use Rattle.ecp_coord.proofs.BookLaws.{Serves, serves_same}
+use Rattle.ecp_coord.proofs.FollowLaws.{IsMet}
+use Rattle.ecp_coord.proofs.KeepLaws.{IsPlain, entered_kept, with_catalog}
+use Rattle.ecp_coord.proofs.CoverLaws.{open_unasked, covered_free}
 use Rattle.ecp_coord.proofs.RoomLaws.{asks_open, room_there, room_lost}
 use Rattle.ecp_coord.specs.declared.node_act.NodeAct.{NodeAct}
 use Rattle.ecp_coord.specs.declared.node_act.NodeAct.TheVariants as found
@@ -62,13 +64,13 @@ lose_follows shape told before p m session each = by_node (nat_lt m shape.nodes)
         may_end shape told before p (Lose m) (act_of found.NodeDown) session (refl, refl) refl (λ off. absurd (false≢true off))
         (not_up (table_of shape before).nodes m (omega (arith, below, each)) down)
 
--- such an entry spends no fault
-pub lose_spends : (p : PassState) (m position node : ℕ) (what : NodeAct) → spends_fault node (ended p (Lose m) position (act_of what)) ≡ false
-lose_spends p m position node (found.Lost count) = refl
-lose_spends p m position node (found.Joined inc) = refl
-lose_spends p m position node found.NoSuchNode = refl
-lose_spends p m position node found.NodeDown = refl
-lose_spends p m position node found.NodeUp = refl
+-- such an entry stores nothing, gives up nothing and spends no fault
+lose_plain : (p : PassState) (m position : ℕ) (what : NodeAct) → IsPlain (ended p (Lose m) position (act_of what))
+lose_plain p m position (found.Lost count) = record { stores = refl; drops = refl; spends = λ node. refl }
+lose_plain p m position (found.Joined inc) = record { stores = refl; drops = refl; spends = λ node. refl }
+lose_plain p m position found.NoSuchNode = record { stores = refl; drops = refl; spends = λ node. refl }
+lose_plain p m position found.NodeDown = record { stores = refl; drops = refl; spends = λ node. refl }
+lose_plain p m position found.NodeUp = record { stores = refl; drops = refl; spends = λ node. refl }
 
 -- what is found is there to be lost
 pub can_lose : (shape : Shape) (told : Bool) (c : CatalogState) (history : List Entry) (m : ℕ) → IsOutline shape told c history → length c.nodes ≡ shape.nodes
@@ -112,16 +114,16 @@ losing_outline shape told c history p m what position is at found_is = by_found 
   by_found found.NodeDown own = unchanged shape told c history (ended p (Lose m) (length history) (act_of found.NodeDown)) is refl
   by_found found.NodeUp own = unchanged shape told c history (ended p (Lose m) (length history) (act_of found.NodeUp)) is refl
 
-pub losing_nodes : (what : NodeAct) (m position : ℕ) (c : CatalogState) → length (after_losing what m position c).nodes ≡ length c.nodes
-losing_nodes (found.Lost count) m position c = length-changed_at (lost_at position) m c.nodes
-losing_nodes (found.Joined inc) m position c = refl
-losing_nodes found.NoSuchNode m position c = refl
-losing_nodes found.NodeDown m position c = refl
-losing_nodes found.NodeUp m position c = refl
+losing_serves : (what : NodeAct) (m position : ℕ) (c : CatalogState) → Serves c (after_losing what m position c)
+losing_serves (found.Lost count) m position c = record { nodes = length-changed_at (lost_at position) m c.nodes; names = λ q is. is; room = omega arith }
+losing_serves (found.Joined inc) m position c = serves_same c
+losing_serves found.NoSuchNode m position c = serves_same c
+losing_serves found.NodeDown m position c = serves_same c
+losing_serves found.NodeUp m position c = serves_same c
 
 -- ---- the whole event
 
-length_told : (items : Log) → length (history_of items) ≡ length items
+pub length_told : (items : Log) → length (history_of items) ≡ length items
 length_told items = length-map (made_of items) (λ (m : Made). m.entry) ∙ length-map items made_from
 
 module _ (shape : Shape) (told : Bool) where
@@ -139,37 +141,38 @@ module _ (shape : Shape) (told : Bool) where
   own_losing : (v : PassState) (m : ℕ) → IsOpen v (Lose m) → is_losing m v.notes ≡ true
   own_losing v m open_call = ap (asks_open m) open_call.call ∙ eq-eqb m m refl
 
-  module _ (callers spares hands slice : ℕ) where
-    pub lose_can : (s : SequencerState) (v : PassState) (c : CatalogState) (tags : List Known) (m : ℕ) (what : NodeAct) → IsCoord shape told callers spares s c hands slice tags
-        → IsKept shape told callers spares s.history s.notes → Agrees s v → v.hand < hands_of callers spares → IsOpen v (Lose m)
-        → what ≡ found_by_losing shape (table_of shape (history_of s.history)) m → CanLose c what m (length s.history)
-    lose_can s v c tags m what is kept met in_range open_call found_is =
-        let within : v.hand < length s.notes = omega (arith, in_range, kept.hands) in
-        let asks : is_losing m (notes_at s.notes v.hand) ≡ true = ap (is_losing m) met.notes ∙ own_losing v m open_call in
+  -- the hand has no open call any more
+  none_open : (s t : SequencerState) (v w : PassState) (m : ℕ) (what : NodeAct) → Ends shape told s v (Lose m) (act_of what) t w → (node : ℕ) → is_losing node w.notes ≡ false
+  none_open s t v w m what ends node =
+      let e : Entry = ended v (Lose m) (length s.history) (act_of what) in
+      ap (is_losing node) ends.event.steps.noted ∙ ap (λ (f : HandFacts). asks_open node f.call) (facts-entered v.notes (length s.history) (room_noted v.notes - 1) v.hand e)
+
+  module _ (callers spares : ℕ) where
+    pub lose_can : (s : SequencerState) (v : PassState) (p : CoordParts) (m : ℕ) (what : NodeAct) → IsCoord shape told callers spares s p → IsMet shape told callers spares s v
+        → IsOpen v (Lose m) → what ≡ found_by_losing shape (table_of shape (history_of s.history)) m → CanLose p.catalog what m (length s.history)
+    lose_can s v p m what is met open_call found_is =
+        let c : CatalogState = p.catalog in
+        let within : v.hand < length s.notes = omega (arith, met.in_range, met.kept.hands) in
+        let asks : is_losing m (notes_at s.notes v.hand) ≡ true = ap (is_losing m) met.agree.notes ∙ own_losing v m open_call in
         subst (λ (n : ℕ). CanLose c what m n) (length_told s.history)
         (subst (λ (x : NodeAct). CanLose c x m (length (history_of s.history))) (sym found_is)
         (can_lose shape told c (history_of s.history) m is.outline is.each_node (λ below. room_there shape.nodes c s.notes v.hand m is.room below within asks)))
 
-    -- the hand has no open call any more
-    none_open : (s t : SequencerState) (v w : PassState) (m : ℕ) (what : NodeAct) → Ends shape told s v (Lose m) (act_of what) t w → (node : ℕ) → is_losing node w.notes ≡ false
-    none_open s t v w m what ends node =
-        let e : Entry = ended v (Lose m) (length s.history) (act_of what) in
-        ap (is_losing node) ends.event.steps.noted ∙ ap (λ (f : HandFacts). asks_open node f.call) (facts-entered v.notes (length s.history) (room_noted v.notes - 1) v.hand e)
-
-    pub lose_kept : (s t : SequencerState) (v w : PassState) (c : CatalogState) (tags : List Known) (m : ℕ) (what : NodeAct) → IsCoord shape told callers spares s c hands slice tags
-        → IsKept shape told callers spares s.history s.notes → Agrees s v → v.hand < hands_of callers spares → IsOpen v (Lose m)
-        → what ≡ found_by_losing shape (table_of shape (history_of s.history)) m → Ends shape told s v (Lose m) (act_of what) t w
-        → IsCoord shape told callers spares t (after_losing what m (length s.history) c) hands slice tags
-    lose_kept s t v w c tags m what is kept met in_range open_call found_is ends =
+    pub lose_kept : (s t : SequencerState) (v w : PassState) (p : CoordParts) (m : ℕ) (what : NodeAct) → IsCoord shape told callers spares s p → IsMet shape told callers spares s v
+        → IsOpen v (Lose m) → what ≡ found_by_losing shape (table_of shape (history_of s.history)) m → Ends shape told s v (Lose m) (act_of what) t w
+        → IsCoord shape told callers spares t (with_catalog p (after_losing what m (length s.history) p.catalog))
+    lose_kept s t v w p m what is met open_call found_is ends =
+        let c : CatalogState = p.catalog in
         let before : List Entry = history_of s.history in
         let e : Entry = ended v (Lose m) (length s.history) (act_of what) in
         let d : CatalogState = after_losing what m (length s.history) c in
-        let within : v.hand < length s.notes = omega (arith, in_range, kept.hands) in
-        let asks : is_losing m (notes_at s.notes v.hand) ≡ true = ap (is_losing m) met.notes ∙ own_losing v m open_call in
+        let within : v.hand < length s.notes = omega (arith, met.in_range, met.kept.hands) in
+        let asks : is_losing m (notes_at s.notes v.hand) ≡ true = ap (is_losing m) met.agree.notes ∙ own_losing v m open_call in
         let longer : IsOutline shape told d (before ++ e ∷ []) =
         subst (λ (n : ℕ). IsOutline shape told d (before ++ ended v (Lose m) n (act_of what) ∷ [])) (length_told s.history)
         (losing_outline shape told c before v m what (length s.history) is.outline (sym (length_told s.history)) found_is) in
-        entered_kept shape told callers spares hands slice s t c d tags tags v.hand e is ends.event.history longer (losing_nodes what m (length s.history) c)
-        (tags_kept shape.nodes s.history t.history tags v.hand e is.tagged ends.event.history (λ node. lose_spends v m (length s.history) node what))
+        entered_kept shape told callers spares s t v w p d e (room_noted v.notes - 1) is met ends.event (lose_plain v m (length s.history) what)
+        (covered_free shape s v e (open_unasked shape v.notes (call_with (v.calls - 1) (Lose m)) open_call.call refl)) longer
+        (losing_serves what m (length s.history) c)
         (subst (HasRoom shape.nodes d) (sym ends.event.notes)
         (room_lost shape.nodes c s.notes v.hand w.notes m (length s.history) what is.room within is.each_node asks (none_open s t v w m what ends)))

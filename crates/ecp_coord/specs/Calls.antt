@@ -1,5 +1,5 @@
 -- The open call of a pass, how it begins, and how an event ends it.
-use Rattle.std.specs.Prelude.{◌≡◌, ℕ, ◌-◌, ◌≤◌, Bool, [], ◌∷◌, length, Some}
+use Rattle.std.specs.Prelude.{◌≡◌, ℕ, ◌-◌, ◌≤◌, Bool, List, [], ◌∷◌, length, Some}
 use mathlib.Core.List.{IsPrefix}
 use Rattle.ecp_shape.specs.declared.shape.Shape.{Shape}
 use Rattle.ecp_entry.specs.declared.act.Act.{Act}
@@ -21,6 +21,11 @@ pub record IsOpen (p : PassState) (asked : Deed) : Type 0 where
   pub call : (facts_of p.notes).call ≡ Some (call_with (p.calls - 1) asked)
   pub room : 1 ≤ room_noted p.notes
 
+-- such a call of which nothing was noted since it began
+pub record IsFresh (p : PassState) (asked : Deed) : Type 0 where
+  pub is_open : IsOpen p asked
+  pub none : (facts_of p.notes).since ≡ []
+
 -- an event by which the pass's next call begins
 abbrev pub Begins : Shape → Bool → SequencerState → PassState → Deed → SequencerState → PassState → Type 0
 Begins shape told s v asked t w = Event shape told s v [] (note (length s.history) ROOM (beginning_of (call_with v.calls asked)) ∷ []) t w
@@ -36,3 +41,25 @@ pub record Ends (shape : Shape) (told : Bool) (s : SequencerState) (v : PassStat
       (note (length s.history) (room_noted v.notes - 1) (entering_of v.hand (ended v asked (length s.history) act)) ∷ []) t w
   pub begins : IsPrefix v.front s.history
   pub calls : w.calls ≡ v.calls
+
+-- the pass has an open call, whatever it asks for
+abbrev pub HasOpen : PassState → Type 0
+HasOpen p = (asked : Deed) × IsOpen p asked
+
+-- the entry that ends the open call of a pass with this act and these bytes, and speaks of the history at a point
+abbrev pub closing : PassState → Deed → ℕ → Act → List ℕ → Entry
+closing p asked point act bytes = entry_with (line_with p.caller (p.calls - 1) point part.End act) (Some asked) (deed_name (Some asked)) bytes
+
+-- An event that ends the open call of a pass with such an entry, whatever the call asks for, in one place of the hand's room
+pub record EndsBy (shape : Shape) (told : Bool) (s : SequencerState) (v : PassState) (point : ℕ) (act : Act) (bytes : List ℕ) (t : SequencerState) (w : PassState) : Type 0 where
+  pub asked : Deed
+  pub is_open : IsOpen v asked
+  pub event : Event shape told s v (closing v asked point act bytes ∷ []) (note (length s.history) (room_noted v.notes - 1) (entering_of v.hand (closing v asked point act bytes)) ∷ []) t w
+  pub begins : IsPrefix v.front s.history
+  pub calls : w.calls ≡ v.calls
+
+-- an event that ends the open call of a pass with this act at its own position, whatever the call asks for
+pub record EndsAny (shape : Shape) (told : Bool) (s : SequencerState) (v : PassState) (act : Act) (t : SequencerState) (w : PassState) : Type 0 where
+  pub asked : Deed
+  pub is_open : IsOpen v asked
+  pub ends : Ends shape told s v asked act t w

@@ -1,5 +1,6 @@
 -- What contracts see of a coordinator, and what holds of every coordinator.
-use Rattle.std.specs.Prelude.{◌≡◌, ℕ, ◌*◌, ◌<◌, ◌≤◌, ◌==◌, Bool, false, List, [], length, map, replicate, count_by, slice_index_or, Option, Some}
+use Rattle.std.specs.Prelude.{◌≡◌, ◌≢◌, ℕ, ◌*◌, ◌<◌, ◌≤◌, ◌==◌, Bool, false, List, [], length, map, replicate, count_by, slice_index_or, is_some, Option, Some}
+use Rattle.std.specs.List.{list_any}
 use Rattle.std.specs.Option.{option_map_or}
 use Rattle.ecp_shape.specs.declared.limits.TheConstants.{MAX_NODES, MAX_SESSIONS, MAX_WORKERS}
 use Rattle.ecp_shape.specs.declared.shape.Shape.{Shape}
@@ -7,6 +8,8 @@ use Rattle.ecp_shape.specs.Range.{IsInRange}
 use Rattle.ecp_book.specs.Logs.{Known, Log, empty_log, history_log, node_log}
 use Rattle.ecp_entry.specs.declared.deed.Deed.{Deed}
 use Rattle.ecp_entry.specs.declared.deed.Deed.TheVariants as deed
+use Rattle.ecp_entry.specs.declared.entry.Entry.{Entry}
+use Rattle.ecp_entry.specs.Entries.{dropped_stripe}
 use Rattle.ecp_entry.specs.Told.{history_of}
 use Rattle.ecp_node.specs.Held.{spends}
 use Rattle.ecp_history.specs.Counted.{faults_spent}
@@ -14,9 +17,12 @@ use Rattle.ecp_catalog.specs.Catalogs.{CatalogState, changed_at, with_spare, spa
 use Rattle.ecp_catalog.specs.Outline.{IsOutline}
 use Rattle.ecp_catalog.specs.Stamps.{StampsSeen}
 use Rattle.ecp_sequencer.specs.Facts.{facts_of}
-use Rattle.ecp_sequencer.specs.Hands.{hands_of}
+use Rattle.ecp_sequencer.specs.Hands.{IsHandOf, hands_of, own_hand}
+use Rattle.ecp_sequencer.specs.Histories.{notes_at}
 use Rattle.ecp_sequencer.specs.Sequencers.{SequencerState, AreTies}
 use Rattle.ecp_sequencer.specs.Sequencers as sequencers
+use Rattle.ecp_coord.specs.Bookings.{AreBooked}
+use Rattle.ecp_coord.specs.Numbers.{AreCovered}
 
 -- The history with what each hand noted, the stamps of the nodes, how many repairs were planned, how many stripes all reservations have
 -- together, how many bytes a slice has, whether a plan that is not direct has a lane for each helper, and what is known of each node's log
@@ -78,15 +84,42 @@ pub record AreTags (nodes : ℕ) (history : Log) (tags : List Known) : Type 0 wh
   pub on_logs : (m : ℕ) (t : Known) → m < nodes → (slice_index_or tags m t).log ≡ node_log m
   pub paid : (m : ℕ) (t : Known) → m < nodes → faults_spent m (history_of history) ≤ spends (slice_index_or tags m t).items
 
+-- What a coordinator has beside its sequencer: its catalog, how many hands there are, how many bytes a slice has, its tags on the logs of
+-- the nodes, how many stripes all reservations have together, and for each hand how many more numbers it may take for later attempts
+pub record CoordParts : Type 0 where
+  pub catalog : CatalogState
+  pub hands : ℕ
+  pub slice : ℕ
+  pub tags : List Known
+  pub stripes : ℕ
+  pub promises : List ℕ
+
+abbrev pub parts_of : CatalogState → ℕ → ℕ → List Known → ℕ → List ℕ → CoordParts
+parts_of catalog hands slice tags stripes promises =
+    record { catalog = catalog; hands = hands; slice = slice; tags = tags; stripes = stripes; promises = promises }
+
+-- a hand that is not a caller's own noted nothing
+abbrev pub AreIdle : ℕ → List Log → Type 0
+AreIdle spares notes = (caller hand : ℕ) → IsHandOf spares caller hand → hand ≢ own_hand spares caller → notes_at notes hand ≡ []
+
+-- whether an entry gives a block up
+abbrev pub is_drop : Entry → Bool
+is_drop e = is_some (dropped_stripe e.line.act)
+
 -- what holds of every coordinator: its catalog is the outline of its history
-pub record IsCoord (shape : Shape) (told : Bool) (callers spares : ℕ) (s : SequencerState) (c : CatalogState) (hands slice : ℕ) (tags : List Known) : Type 0 where
-  pub outline : IsOutline shape told c (history_of s.history)
+pub record IsCoord (shape : Shape) (told : Bool) (callers spares : ℕ) (s : SequencerState) (p : CoordParts) : Type 0 where
+  pub outline : IsOutline shape told p.catalog (history_of s.history)
   pub range : IsInRange shape
-  pub each_node : length c.nodes ≡ shape.nodes
-  pub counted : hands ≡ hands_of callers spares
-  pub sliced : (1 ≤ slice) × (slice ≤ shape.block)
-  pub tagged : AreTags shape.nodes s.history tags
-  pub room : HasRoom shape.nodes c s.notes
+  pub each_node : length p.catalog.nodes ≡ shape.nodes
+  pub most : callers ≤ MAX_SESSIONS
+  pub counted : p.hands ≡ hands_of callers spares
+  pub sliced : (1 ≤ p.slice) × (p.slice ≤ shape.block)
+  pub tagged : AreTags shape.nodes s.history p.tags
+  pub room : HasRoom shape.nodes p.catalog s.notes
+  pub idle : AreIdle spares s.notes
+  pub no_drops : list_any is_drop (history_of s.history) ≡ false
+  pub booked : AreBooked s p.catalog p.stripes p.promises
+  pub covered : AreCovered shape s p.stripes
 
 -- these are the keepers of the logs of so many nodes, in rising order, and each is empty
 pub record AreNodeLogs (nodes : ℕ) (keepers : List Known) : Type 0 where

@@ -1,5 +1,11 @@
 pub mod Calls
 pub mod Losing
+pub mod Bookings
+pub mod Numbers
 pub mod Coords
 pub mod Budget
+pub mod Voids
+pub mod Helping
+pub mod Plans
+pub mod Attempts
 pub mod Rounds

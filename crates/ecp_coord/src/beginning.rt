@@ -1,7 +1,7 @@
 //! The event that begins a call.
 ghost use Rattle.std.specs.Prelude.{◌≡◌, ◌+◌, ◌-◌, ◌^◌, [], min, OnOk, OnErr};
 ghost use Rattle.ecp_sequencer.specs.Steps.{Event};
-ghost use Rattle.ecp_coord.specs.Calls.{Begins, IsOpen};
+ghost use Rattle.ecp_coord.specs.Calls.{Begins, IsFresh, IsOpen};
 ghost use Rattle.ecp_coord.specs.Coords.{with_room};
 
 use crate::coord::Coord;
@@ -19,6 +19,7 @@ impl<N: Names> Coord<N> {
     pub fn begin(&mut self, book: &Book<N>, pass: &mut Pass<N>, deed: Deed) -> Result<(), NoMemory>
         ensures ok { OnOk result (Begins N.shape N.told self.old.sequence pass.old deed self.new.sequence pass.new) }
         ensures open { OnOk result (IsOpen pass.new deed) }
+        ensures fresh { OnOk result (IsFresh pass.new deed) }
         ensures err { OnErr result (Event N.shape N.told self.old.sequence pass.old [] [] self.new.sequence pass.new) }
         ensures counted { OnOk result (pass.new.calls ≡ pass.old.calls + 1) }
         ensures calls { pass.new.calls ≡ min (pass.old.calls + 1) (2 ^ 32 - 1) }

@@ -2,7 +2,10 @@
 ghost use Rattle.std.specs.Prelude.{◌≡◌, ◌<◌};
 ghost use Rattle.ecp_node.specs.Nodes.{start_of};
 ghost use Rattle.ecp_sequencer.specs.Closed.{Closed};
+ghost use Rattle.ecp_entry.specs.Told.{history_of};
+ghost use Rattle.ecp_history.specs.Files.{StripesBounded};
 ghost use Rattle.ecp_coord.specs.Budget.{IsPaid};
+ghost use Rattle.ecp_coord.specs.Numbers.{AllEnded, calls_ended};
 
 use crate::Pass;
 use crate::coord::Coord;
@@ -26,9 +29,12 @@ impl<N: Names> Coord<N> {
 
     /// Meets each pass for the last time, and gives the journal. Takes no memory, and appends nothing.
     ///
-    /// A pass that is not handed in is not spoken of; the history is legal all the same.
+    /// A pass that is not handed in is not spoken of; the history is legal all the same. Where all passes are handed in, and
+    /// each call that they counted has its end, no more stripe numbers are used up than the puts ask for: each its stripes,
+    /// once and once more for each loss from where it began to its end.
     pub fn close(self, book: &Book<N>, passes: Vec<Pass<N>>) -> Journal
-        ensures { Closed N.shape N.told N.callers N.spare_hands self.sequence result.lines passes.items }
+        ensures closed { Closed N.shape N.told N.callers N.spare_hands self.sequence result.lines passes.items }
+        ensures numbers { AllEnded N.callers N.spare_hands (history_of self.sequence.history) passes.items → StripesBounded (calls_ended N.shape (history_of self.sequence.history)) (history_of self.sequence.history) }
     {
         let Coord { sequencer, .. } = self;
         sequencer.close(book, passes)

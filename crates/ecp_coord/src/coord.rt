@@ -20,6 +20,8 @@ pub struct Coord<N: Names> {
     pub(crate) slice: u32,
     /// Whether a plan that is not direct has a lane for each helper.
     pub(crate) cyclic: bool,
+    /// For each hand, how many more stripe numbers it may take for later attempts of its put.
+    pub(crate) promises: Vec<u32>,
     /// How many hands there are.
     pub(crate) hands: u32,
     /// A tag on the log of each node.
@@ -27,11 +29,11 @@ pub struct Coord<N: Names> {
 }
 
 impl<N: Names> Model for Coord<N> {
-    ghost use Rattle.ecp_coord.specs.Coords.{CoordState, IsCoord, heard};
+    ghost use Rattle.ecp_coord.specs.Coords.{CoordState, IsCoord, heard, parts_of};
 
     ghost Value = { CoordState };
 
     ghost view = { λ c. record { sequence = c.sequencer; stamps = c.stamps; repairs = c.repairs; stripes = c.stripes; slice = c.slice; cyclic = c.cyclic; nodes = heard c.nodes.items } };
 
-    ghost invariant = { λ c. IsCoord N.shape N.told N.callers N.spare_hands c.sequencer c.catalog c.hands c.slice c.nodes.items };
+    ghost invariant = { λ c. IsCoord N.shape N.told N.callers N.spare_hands c.sequencer (parts_of c.catalog c.hands c.slice c.nodes.items c.stripes c.promises.items) };
 }

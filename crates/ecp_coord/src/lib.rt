@@ -13,18 +13,30 @@
 //! `close` teach at the end. Room is taken by `new` and `begin` alone.
 #![tactic(auto)]
 
+mod ask;
+mod asking;
 mod beginning;
 mod closing;
 mod coord;
 mod ending;
+mod finishing;
+mod giving_up;
+mod helping;
 mod losing;
+mod no_plan;
 mod node_act;
+mod planning;
+mod replanned;
+mod replanning;
 mod start;
 
+pub use ask::Ask;
 pub use coord::Coord;
 pub use ecp_sequencer::Pass;
 pub use ecp_store::NoMemory;
+pub use no_plan::NoPlan;
 pub use node_act::NodeAct;
+pub use replanned::Replanned;
 
 #[cfg(test)]
 mod tests;

@@ -1,5 +1,5 @@
 //! How a coordinator and the passes of its callers are made.
-ghost use Rattle.std.specs.Prelude.{◌≡◌, IfOk, length};
+ghost use Rattle.std.specs.Prelude.{◌≡◌, IfOk, length, replicate};
 ghost use Rattle.ecp_book.specs.Logs.{empty_log, history_log};
 ghost use Rattle.ecp_sequencer.specs.Passes.{first_passes};
 ghost use Rattle.ecp_sequencer.specs.Hands.{hands_of};
@@ -39,6 +39,7 @@ impl<N: Names> Coord<N> {
         let catalog = Catalog::new(alloc, shape)?;
         let tags = tags_on(alloc, book, nodes)?;
         let all = ties.len() / 2;
+        let promises = none_yet(alloc, all)?;
         let callers = all / (1 + hands as usize);
         let (sequencer, passes) = Sequencer::new(
             alloc,
@@ -56,11 +57,19 @@ impl<N: Names> Coord<N> {
             stripes: 0,
             slice,
             cyclic,
+            promises,
             hands: all as u32,
             nodes: tags,
         };
         Ok((coord, passes))
     }
+}
+
+// No number for each of so many hands.
+fn none_yet(alloc: Global, hands: usize) -> Result<Vec<u32>, NoMemory>
+    ensures { IfOk result (λ promises. promises.items ≡ replicate hands 0) }
+{
+    Ok(vec![in alloc; 0; hands]?)
 }
 
 // A tag on each log, with its whole list.

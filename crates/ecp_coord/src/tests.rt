@@ -4,6 +4,7 @@ ghost use Rattle.ecp_sequencer.specs.Passes.{first_passes};
 ghost use Rattle.ecp_coord.specs.Coords.{at_start, AreNodeLogs};
 
 mod calls;
+mod plans;
 mod spine;
 
 use super::*;

@@ -45,6 +45,13 @@ impl<N: Names> Pass<N> {
         self.caller
     }
 
+    /// The number of its caller's own hand.
+    pub fn hand(&self) -> u8
+        ensures { result ≡ self.now.hand }
+    {
+        self.hand.number()
+    }
+
     /// How many calls its caller began: the number of the next one.
     pub fn calls(&self) -> u32
         ensures { result ≡ self.now.calls }

@@ -8,8 +8,10 @@ use Rattle.ecp_catalog.specs.Catalogs.{CatalogState}
 use Rattle.ecp_sequencer.specs.Passes.{PassState}
 use Rattle.ecp_sequencer.specs.Sequencers.{SequencerState}
 use Rattle.ecp_coord.specs.Calls.{Ends, ended}
-use Rattle.ecp_coord.specs.Coords.{CoordState, IsCoord}
+use Rattle.ecp_coord.specs.Coords.{CoordParts, CoordState, IsCoord, parts_of}
 use Rattle.ecp_coord.specs.Losing.{CanLose, act_of, after_losing, found_by_losing}
+use Rattle.ecp_coord.proofs.FollowLaws.{IsMet}
+use Rattle.ecp_coord.proofs.KeepLaws.{with_catalog}
 use Rattle.ecp_coord.proofs.LoseLaws.{lose_goes, lose_can, lose_kept}
 use Rattle.ecp_coord.proofs.coord.Coord.lose.Goals as goal
 
@@ -31,9 +33,16 @@ update-requires g c =
     let s : SequencerState = c.self.inside.sequencer in
     let found_is = c.find-found.ensures shape told (history_of s.history) c.self.invariant.outline in
     let at : length s.history ≡ c.len-position.result = sym (c.len-position.ensures ∙ ap (λ (x : SequencerState). length x.history) c.meet.ensures.same) in
+    let p : CoordParts = parts_of c.self.inside.catalog c.self.inside.hands c.self.inside.slice c.self.inside.nodes.items c.self.inside.stripes c.self.inside.promises.items in
+    let met : IsMet shape told g.N.Names.callers g.N.Names.spare_hands s c.args.pass.now = record {
+      agree = c.meet.ensures.agree;
+      kept = c.meet.ensures.kept;
+      session = c.meet.ensures.session;
+      own = c.meet.ensures.own;
+      in_range = c.meet.ensures.in_range;
+    } in
     subst (λ (n : ℕ). CanLose c.self.inside.catalog c.find-found.result c.args.node n) at
-    (lose_can shape told g.N.Names.callers g.N.Names.spare_hands c.self.inside.hands c.self.inside.slice s c.args.pass.now c.self.inside.catalog c.self.inside.nodes.items c.args.node c.find-found.result
-    c.self.invariant c.meet.ensures.kept c.meet.ensures.agree c.meet.ensures.in_range c.requires.open found_is)
+    (lose_can shape told g.N.Names.callers g.N.Names.spare_hands s c.args.pass.now p c.args.node c.find-found.result c.self.invariant met c.requires.open found_is)
 
 pub invariant_of-self : goal.invariant_of-self
 invariant_of-self g c =
@@ -47,9 +56,16 @@ invariant_of-self g c =
     subst (λ (a : Act). Ends shape told s c.args.pass.now (Lose c.args.node) a t c.end_call.new.pass) c.act.ensures
     (subst (λ (p : PassState). Ends shape told s p (Lose c.args.node) c.act.result t c.end_call.new.pass) c.meet.ensures.pass
     (subst (λ (x : SequencerState). Ends shape told x c.meet.new.pass (Lose c.args.node) c.act.result t c.end_call.new.pass) c.meet.ensures.same c.end_call.ensures)) in
-    let made = lose_kept shape told g.N.Names.callers g.N.Names.spare_hands c.self.inside.hands c.self.inside.slice s t c.args.pass.now c.end_call.new.pass c.self.inside.catalog c.self.inside.nodes.items
-    c.args.node c.find-found.result c.self.invariant c.meet.ensures.kept c.meet.ensures.agree c.meet.ensures.in_range c.requires.open found_is ends in
-    subst (λ (d : CatalogState). IsCoord shape told g.N.Names.callers g.N.Names.spare_hands t d c.self.inside.hands c.self.inside.slice c.self.inside.nodes.items)
+    let p : CoordParts = parts_of c.self.inside.catalog c.self.inside.hands c.self.inside.slice c.self.inside.nodes.items c.self.inside.stripes c.self.inside.promises.items in
+    let met : IsMet shape told g.N.Names.callers g.N.Names.spare_hands s c.args.pass.now = record {
+      agree = c.meet.ensures.agree;
+      kept = c.meet.ensures.kept;
+      session = c.meet.ensures.session;
+      own = c.meet.ensures.own;
+      in_range = c.meet.ensures.in_range;
+    } in
+    let made = lose_kept shape told g.N.Names.callers g.N.Names.spare_hands s t c.args.pass.now c.end_call.new.pass p c.args.node c.find-found.result c.self.invariant met c.requires.open found_is ends in
+    subst (λ (d : CatalogState). IsCoord shape told g.N.Names.callers g.N.Names.spare_hands t (with_catalog p d))
     (ap (λ (n : ℕ). after_losing c.find-found.result c.args.node n c.self.inside.catalog) at ∙ sym c.update.ensures) made
 
 pub returns-clause-answer : goal.returns-clause-answer

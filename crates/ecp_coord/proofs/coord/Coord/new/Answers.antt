@@ -7,7 +7,7 @@ use Rattle.ecp_sequencer.specs.Hands.{hands_of}
 use Rattle.ecp_sequencer.specs.Passes.{first_passes}
 use Rattle.ecp_sequencer.specs.Sequencers.{SequencerState}
 use Rattle.ecp_sequencer.specs.Sequencers as sequencers
-use Rattle.ecp_coord.specs.Coords.{CoordState, IsCoord, heard, no_stamps}
+use Rattle.ecp_coord.specs.Coords.{CoordState, IsCoord, heard, no_stamps, parts_of}
 use Rattle.ecp_coord.proofs.StartLaws.{ties_halved, callers_counted, heard-empty, start_is}
 use Rattle.ecp_coord.proofs.coord.Coord.new.Goals as goal
 
@@ -32,11 +32,13 @@ invariant_of-coord g c =
     let sequencer : sequencers.at_start half ≡ c.in_ok-sequencer.sequencer =
     sym (c.in_ok-sequencer.ensures.sequencer ∙ ap (λ (k : ℕ). sequencers.at_start (hands_of k hands)) counted ∙ ap (λ (n : ℕ). sequencers.at_start n) (sym all)) in
     let tags : c.in_ok-tags.tags.items ≡ c.args.nodes.now.items = c.in_ok-tags.ensures.tags ∙ c.deref_mut.ensures.value in
-    let made = start_is c.args.shape g.N.Names.told callers spares c.args.slice hands c.args.history c.args.nodes.now.items c.args.ties.items c.in_ok-tags.tags.items half c.requires.can tags
-    (all ∙ ap (λ (h : ℕ). hands_of callers h) c.requires.can.handed.0) in
-    subst (λ (s : Shape). IsCoord s g.N.Names.told callers spares c.in_ok-sequencer.sequencer c.in_ok-catalog.catalog half c.args.slice c.in_ok-tags.tags.items) c.requires.named
-    (subst (λ (d : CatalogState). IsCoord c.args.shape g.N.Names.told callers spares c.in_ok-sequencer.sequencer d half c.args.slice c.in_ok-tags.tags.items) (sym c.in_ok-catalog.ensures)
-    (subst (λ (x : SequencerState). IsCoord c.args.shape g.N.Names.told callers spares x (empty c.args.shape) half c.args.slice c.in_ok-tags.tags.items) sequencer made))
+    let promises : List ℕ = c.in_ok-promises.promises.items in
+    let none : promises ≡ replicate half 0 = c.in_ok-promises.ensures in
+    let made = start_is c.args.shape g.N.Names.told callers spares c.args.slice hands c.args.history c.args.nodes.now.items c.args.ties.items c.in_ok-tags.tags.items half promises c.requires.can tags
+    (all ∙ ap (λ (h : ℕ). hands_of callers h) c.requires.can.handed.0) none in
+    subst (λ (s : Shape). IsCoord s g.N.Names.told callers spares c.in_ok-sequencer.sequencer (parts_of c.in_ok-catalog.catalog half c.args.slice c.in_ok-tags.tags.items 0 promises)) c.requires.named
+    (subst (λ (d : CatalogState). IsCoord c.args.shape g.N.Names.told callers spares c.in_ok-sequencer.sequencer (parts_of d half c.args.slice c.in_ok-tags.tags.items 0 promises)) (sym c.in_ok-catalog.ensures)
+    (subst (λ (x : SequencerState). IsCoord c.args.shape g.N.Names.told callers spares x (parts_of (empty c.args.shape) half c.args.slice c.in_ok-tags.tags.items 0 promises)) sequencer made))
 
 -- a coordinator with these parts
 abbrev parts : ℕ → Bool → SequencerState → StampsSeen → List Log → CoordState

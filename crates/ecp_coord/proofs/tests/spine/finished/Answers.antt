@@ -16,12 +16,12 @@ returns g c =
     let firsts : old ≡ first_passes 1 2 = c.as_mut_slice.ensures.value ∙ c.requires.passes in
     let two : length old ≡ 2 = ap (λ (ps : List PassState). length ps) firsts in
     let settled : All (IsSettled s) new =
-    subst (All (IsSettled s)) (with_items_is c.args.passes new (c.rounds.auto.passes ∙ c.as_mut_slice.ensures.len)) c.close.ensures.settled in
+    subst (All (IsSettled s)) (with_items_is c.args.passes new (c.rounds.auto.passes ∙ c.as_mut_slice.ensures.len)) c.close.ensures.closed.settled in
     let p : PassState = first_pass 1 0 in
     record {
       history = s.history;
-      legal = c.close.ensures.legal;
-      printed = c.close.ensures.printed;
+      legal = c.close.ensures.closed.kept.legal;
+      printed = c.close.ensures.closed.printed;
       each = λ caller lt.
           let in_old : caller < length old = omega (arith, lt, two) in
           let w : PassState = get_or new caller p in

@@ -30,9 +30,7 @@ returns g c =
     let kept : IsKept g.N.Names.shape g.N.Names.told g.N.Names.callers g.N.Names.spare_hands s.history s.notes =
     subst (λ (t : SequencerState). IsKept g.N.Names.shape g.N.Names.told g.N.Names.callers g.N.Names.spare_hands t.history t.notes) is c.self.invariant.kept in
     record {
-      legal = kept.legal;
-      counted = kept.counted;
-      made = kept.made;
+      kept = kept;
       none = λ hand past. let apart : hand ≢ hands = λ same. omega arith in none_past s.history s.notes hands hand kept.hands past (kept.stand hand apart);
       printed = c.self.invariant.lines ∙ ap (λ (t : SequencerState). lines_of t.history) is;
       settled = subst (All (IsSettled s)) (sym (map-id c.loop-pass.yielded) ∙ ended.0) c.loop-pass.invariant.settled;

@@ -20,7 +20,7 @@ returns g c =
     let p : PassState = first_pass 1 0 in
     record {
       history = s.history;
-      legal = c.close.ensures.legal;
+      legal = c.close.ensures.kept.legal;
       printed = c.close.ensures.printed;
       each = λ caller lt.
           let in_old : caller < length old = omega (arith, lt, two) in

@@ -1,0 +1,33 @@
+//! The event that ends a call with the bytes of its block.
+ghost use Rattle.std.specs.Prelude.{◌≡◌};
+ghost use Rattle.ecp_history.specs.Fronts.{IsBlockIn};
+ghost use Rattle.ecp_coord.specs.Plans.{Finishes, IsPlanned};
+
+use crate::Pass;
+use crate::coord::Coord;
+use crate::giving_up::end_with;
+use ecp_book::{Book, Names};
+use ecp_entry::Act;
+use ecp_plan::Plan;
+
+impl<N: Names> Coord<N> {
+    /// Ends the pass's open call with the bytes of the block that its plan makes, as of the plan's point: they are the
+    /// block's in the table of the plan's front, whatever came after. Takes no memory, and copies no byte.
+    pub fn finish(&mut self, book: &Book<N>, pass: &mut Pass<N>, plan: &mut Plan<N>, bytes: &[u8])
+        requires planned { IsPlanned N.shape N.told pass.old plan.old }
+        requires bytes { IsBlockIn N.shape N.told plan.old.front.items plan.old.stripe plan.old.row bytes.now }
+        ensures done { Finishes N.shape N.told self.old pass.old plan.old bytes.now self.new pass.new }
+        ensures plan { plan.new ≡ plan.old }
+    {
+        self.sequencer.meet(book, pass);
+        self.sequencer.meet_front(book, &mut plan.front);
+        end_with(
+            &mut self.sequencer,
+            book,
+            pass,
+            plan.point,
+            Act::Data,
+            bytes,
+        );
+    }
+}
