@@ -216,7 +216,7 @@ nothing_booked = ap (λ (f : HandFacts). booking_in f.since f.call) facts_of-non
 
 -- ---- a note of a reservation
 
-last_push : (xs : List (List ℕ)) (y : List ℕ) → last_of (xs ++ y ∷ []) ≡ Some y
+pub last_push : (xs : List (List ℕ)) (y : List ℕ) → last_of (xs ++ y ∷ []) ≡ Some y
 last_push xs y =
     ap (slice_get (xs ++ y ∷ [])) (let at : length (xs ++ y ∷ []) - 1 ≡ length xs = omega (arith, length-append xs (y ∷ [])) in at) ∙ get_last xs y
 

@@ -1,12 +1,12 @@
 -- An entry of a caller's own hand follows nothing that stands past the entries of that hand.
-use Rattle.std.proofs.Common.{◌≡◌, ◌≢◌, ℕ, zero, suc, ◌+◌, ◌<◌, ◌≤◌, ◌==◌, Bool, true, false, cond, ◌&&◌, ◌||◌, List, [], ◌∷◌, ◌++◌, length, drop, refl, sym, ◌∙◌, ap, subst, arith, inl, inr, append-nil}
+use Rattle.std.proofs.Common.{◌≡◌, ◌≢◌, ℕ, zero, suc, ◌+◌, ◌<◌, ◌≤◌, ◌==◌, Bool, true, false, cond, ◌&&◌, ◌||◌, List, [], ◌∷◌, ◌++◌, length, take, drop, refl, sym, ◌∙◌, ap, subst, arith, inl, inr, append-nil}
 use Rattle.std.specs.Prelude.{All, nat_lt}
 use Rattle.std.specs.List.{list_any}
 use mathlib.Core.List.{IsPrefix}
 use mathlib.Core.Logic.{dite}
 use native.Mathlib.Decide.{ℕ_discrete}
 use Rattle.std.proofs.lemmas.Bool.{false≢true, eq-eqb, eqb-true, cases_lt}
-use Rattle.std.proofs.lemmas.List.{append_cancel_left, drop_at}
+use Rattle.std.proofs.lemmas.List.{append_cancel_left, drop_at, take-append-drop}
 use Rattle.std.proofs.lemmas.List.Elements.{All-head, All-tail}
 use Rattle.ecp_shape.specs.declared.limits.TheConstants.{MAX_SESSIONS}
 use Rattle.ecp_shape.specs.declared.shape.Shape.{Shape}
@@ -171,3 +171,12 @@ none_since hand front history begins same =
     let whole : items_by hand front ++ items_by hand rest ≡ items_by hand front ++ [] =
     sym (items_by-append hand front rest) ∙ ap (items_by hand) begins.1 ∙ sym same ∙ sym (append-nil (items_by hand front)) in
     ap (items_by hand) (ap (drop (length front)) (sym begins.1) ∙ drop_at front rest (length front) refl) ∙ append_cancel_left (items_by hand front) (items_by hand rest) [] whole
+
+-- no entry of a hand is none of the end of a log
+pub items_by-drop : (hand : ℕ) (xs : Log) (n : ℕ) → items_by hand xs ≡ [] → items_by hand (drop n xs) ≡ []
+items_by-drop hand xs n none =
+    let parts : items_by hand (take n xs) ++ items_by hand (drop n xs) ≡ [] = sym (items_by-append hand (take n xs) (drop n xs)) ∙ ap (items_by hand) (take-append-drop n xs) ∙ none in
+    no_end (items_by hand (take n xs)) (items_by hand (drop n xs)) parts where
+      no_end : (a b : Log) → a ++ b ≡ [] → b ≡ []
+      no_end [] b is = is
+      no_end (x ∷ a) b is = absurd (cons_some x (a ++ b) is)

@@ -25,7 +25,16 @@ pub mod NextLaws
 pub mod RefuseLaws
 pub mod PlanningLaws
 pub mod LoseLaws
+pub mod UpLaws
+pub mod OvertakeLaws
+pub mod StoreLaws
+pub mod PlaceLaws
+pub mod ReserveLaws
+pub mod PublishLaws
+pub mod PutCoverLaws
+pub mod RenewLaws
 pub mod BeginLaws
 pub mod StartLaws
 pub mod SpineLaws
 pub mod OpenLaws
+pub mod OneStripeLaws

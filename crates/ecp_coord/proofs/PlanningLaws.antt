@@ -17,7 +17,8 @@ use Rattle.ecp_sequencer.proofs.StepLaws.{steps_both}
 use Rattle.ecp_coord.specs.declared.no_plan.NoPlan.{NoPlan}
 use Rattle.ecp_coord.specs.Calls.{Ends, IsFresh, ended}
 use Rattle.ecp_coord.specs.Coords.{CoordParts, IsCoord}
-use Rattle.ecp_coord.specs.Plans.{Refuses, refusal_of, sought}
+use Rattle.ecp_coord.specs.Refusals.{Refuses}
+use Rattle.ecp_coord.specs.Plans.{refusal_of, sought}
 use Rattle.ecp_coord.proofs.AttemptLaws.{state}
 use Rattle.ecp_coord.proofs.FollowLaws.{IsMet}
 use Rattle.ecp_coord.proofs.LoseLaws.{length_told}

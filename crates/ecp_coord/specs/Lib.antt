@@ -5,7 +5,10 @@ pub mod Numbers
 pub mod Coords
 pub mod Budget
 pub mod Voids
+pub mod Refusals
 pub mod Helping
 pub mod Plans
 pub mod Attempts
+pub mod Puts
 pub mod Rounds
+pub mod OneStripe

@@ -1,5 +1,5 @@
 -- What a plan of a pass is, and how it is made, made anew and ended.
-use Rattle.std.specs.Prelude.{◌≡◌, ℕ, ◌+◌, ◌-◌, ◌≤◌, ◌==◌, nat_le, nat_lt, Bool, true, false, not, ◌&&◌, ◌||◌, if◌then◌else◌, ◌⊎◌, List, [], ◌∷◌, ◌++◌, length, map, filter, flat_map, drop, vec_capacity, Option, Some, None, is_none, MatchOption, Result, Ok, Err, All}
+use Rattle.std.specs.Prelude.{◌≡◌, ℕ, ◌+◌, ◌-◌, ◌≤◌, ◌==◌, nat_le, nat_lt, Bool, true, false, not, ◌&&◌, ◌||◌, if◌then◌else◌, ◌⊎◌, List, [], ◌∷◌, ◌++◌, length, map, filter, flat_map, drop, vec_capacity, Option, Some, None, is_none, Result, Ok, Err, All}
 use Rattle.std.specs.List.{list_any, position_from}
 use Rattle.std.specs.Option.{option_map_or}
 use Rattle.ecp_shape.specs.declared.limits.TheConstants.{MAX_ATTEMPTS, MAX_NAME}
@@ -41,7 +41,7 @@ use Rattle.ecp_coord.specs.declared.no_plan.NoPlan.TheVariants.{NoSuchFile, NoSu
 use Rattle.ecp_coord.specs.declared.replanned.Replanned.{Replanned}
 use Rattle.ecp_coord.specs.declared.replanned.Replanned.TheVariants as replanned
 use Rattle.ecp_coord.specs.declared.replanned.Replanned.TheVariants.{Planned, StillGood, Unsteady}
-use Rattle.ecp_coord.specs.Calls.{Ends, EndsAny, IsOpen}
+use Rattle.ecp_coord.specs.Calls.{EndsAny, IsOpen}
 use Rattle.ecp_coord.specs.Coords.{CoordState}
 use Rattle.ecp_coord.specs.Voids.{AreVoids, positions_of}
 
@@ -171,12 +171,6 @@ pub record Plans (shape : Shape) (told : Bool) (s : CoordState) (v : PassState) 
   pub numbered : (plan.repair ≡ s.repairs) × (plan.attempt ≡ 1)
   pub sliced : plan.slice ≡ s.slice
   pub rest : t ≡ record s { sequence = t.sequence; stamps = t.stamps; repairs = s.repairs + 1 }
-  pub calls : w.calls ≡ v.calls
-
--- The call has no plan. Where no memory was found nothing is noted; else the call ends with the reason
-pub record Refuses (shape : Shape) (told : Bool) (s : CoordState) (v : PassState) (asked : Deed) (said : Option Act) (t : CoordState) (w : PassState) : Type 0 where
-  pub event : MatchOption said (Event shape told s.sequence v [] [] t.sequence w) (λ what. Ends shape told s.sequence v asked what t.sequence w)
-  pub rest : t ≡ record s { sequence = t.sequence }
   pub calls : w.calls ≡ v.calls
 
 -- the block of a plan

@@ -1,5 +1,5 @@
 -- The positions of the history at which attempts came to nothing.
-use Rattle.std.specs.Prelude.{◌≡◌, ℕ, ◌-◌, ◌<◌, Bool, List, [], length, take, drop, replicate, All, IsTrue}
+use Rattle.std.specs.Prelude.{◌≡◌, ℕ, ◌+◌, ◌-◌, ◌<◌, Bool, List, [], length, set, take, drop, replicate, All, IsTrue}
 use Rattle.std.specs.List.Sorted.{IsStrictlyIncreasing}
 use Rattle.ecp_shape.specs.declared.limits.TheConstants.{MAX_ATTEMPTS}
 use Rattle.ecp_shape.specs.declared.shape.Shape.{Shape}
@@ -22,3 +22,7 @@ pub record AreVoids (shape : Shape) (test : PlainTable → Entry → Bool) (hand
   pub each : All (λ v. IsTrue (passes_at shape (history_of front) test v)) (positions_of voids)
   pub late : All (λ v. items_by hand (drop v front) ≡ []) (positions_of voids)
   pub rest : drop voids.len voids.at ≡ replicate (MAX_ATTEMPTS - voids.len) 0
+
+-- the positions, and one more behind them
+abbrev pub with_void : Voids → ℕ → Voids
+with_void voids at = record { len = voids.len + 1; at = set voids.at voids.len at }

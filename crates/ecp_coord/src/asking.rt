@@ -13,7 +13,8 @@ ghost use Rattle.ecp_catalog.specs.Outline.{IsOutline};
 ghost use Rattle.ecp_sequencer.specs.Sequencers.{Agrees};
 ghost use Rattle.ecp_sequencer.specs.Steps.{Event};
 ghost use Rattle.ecp_coord.specs.Calls.{Ends, IsFresh, IsOpen, ended};
-ghost use Rattle.ecp_coord.specs.Plans.{Answers, HasName, Plans, Refuses, asked_by, is_recoverable, refusal_of, sought, sought_block, sought_by};
+ghost use Rattle.ecp_coord.specs.Refusals.{Refuses};
+ghost use Rattle.ecp_coord.specs.Plans.{Answers, HasName, Plans, asked_by, is_recoverable, refusal_of, sought, sought_block, sought_by};
 
 use crate::coord::Coord;
 use crate::ending::end_call;

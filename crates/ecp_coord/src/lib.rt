@@ -23,20 +23,33 @@ mod finishing;
 mod giving_up;
 mod helping;
 mod losing;
+mod no_places;
 mod no_plan;
 mod node_act;
+mod places;
 mod planning;
+mod published;
+mod publishing;
+mod refusing;
+mod renewed;
+mod renewing;
 mod replanned;
 mod replanning;
+mod reservation;
+mod reserving;
 mod start;
 
 pub use ask::Ask;
 pub use coord::Coord;
 pub use ecp_sequencer::Pass;
 pub use ecp_store::NoMemory;
+pub use no_places::NoPlaces;
 pub use no_plan::NoPlan;
 pub use node_act::NodeAct;
+pub use published::Published;
+pub use renewed::Renewed;
 pub use replanned::Replanned;
+pub use reservation::Reservation;
 
 #[cfg(test)]
 mod tests;

@@ -20,7 +20,8 @@ use Rattle.ecp_coord.specs.declared.planning.Making.{Making}
 use Rattle.ecp_coord.specs.Attempts.{IsFirst}
 use Rattle.ecp_coord.specs.Calls.{IsFresh, IsOpen}
 use Rattle.ecp_coord.specs.Coords.{CoordParts, CoordState, IsCoord, heard, parts_of}
-use Rattle.ecp_coord.specs.Plans.{Plans, Refuses, planning_of, refusal_of, sought}
+use Rattle.ecp_coord.specs.Refusals.{Refuses}
+use Rattle.ecp_coord.specs.Plans.{Plans, planning_of, refusal_of, sought}
 use Rattle.ecp_coord.proofs.AttemptLaws.{first_plans, first_stamped, found_can, state}
 use Rattle.ecp_coord.proofs.CallLaws.{planned_kept, waited_kept}
 use Rattle.ecp_coord.proofs.CoverLaws.{open_fresh}
