@@ -1,5 +1,5 @@
 -- How many slices are there.
-use Rattle.std.proofs.Common.{◌≡◌, ℕ, zero, suc, ◌+◌, ◌<◌, ◌≤◌, Bool, true, false, cond, List, [], ◌∷◌, length, get_or, refl, sym, ◌∙◌, ap, arith}
+use Rattle.std.proofs.Common.{◌≡◌, ℕ, zero, suc, ◌+◌, ◌<◌, ◌≤◌, Bool, true, false, cond, List, [], ◌∷◌, length, get_or, replicate, refl, sym, ◌∙◌, ap, arith}
 use Rattle.std.specs.Prelude.{All, IsTrue, count_by}
 use Rattle.std.proofs.Math.ListN.{set}
 use Rattle.std.proofs.lemmas.List.Sums.{count_by-le-length, sum_by-cons}
@@ -28,6 +28,10 @@ pub so_all : (xs : List Bool) → All IsTrue xs → so_many xs ≡ length xs
 so_all [] all = refl
 so_all (true ∷ xs) all = let rest : so_many xs ≡ length xs = so_all xs (All-tail IsTrue true xs all) in omega (arith, rest, more xs)
 so_all (false ∷ xs) all = absurd (cc (All-head IsTrue false xs all))
+
+pub none_so : (n : ℕ) → so_many (replicate n false) ≡ 0
+none_so zero = refl
+none_so (suc n) = no_more (replicate n false) ∙ none_so n
 
 -- one more is so
 pub one_more : (xs : List Bool) (i : ℕ) → i < length xs → get_or xs i false ≡ false → so_many (set xs i true) ≡ so_many xs + 1

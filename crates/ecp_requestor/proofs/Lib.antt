@@ -1,7 +1,11 @@
 pub mod Answered
 pub mod Counting
+pub mod CrewLaws
+pub mod FetchLaws
 pub mod OneBlocks
+pub mod Renewed
 pub mod Slices
+pub mod Stops
 pub mod Taking
 pub mod Whole
 pub mod Writing

@@ -1,5 +1,5 @@
 -- The plan of the tests is sound: it takes the first block of the file from the node that has it.
-use Rattle.std.proofs.Common.{◌≡◌, ℕ, zero, suc, ◌<◌, ◌≤◌, inl, inr, Bool, true, false, List, [], ◌∷◌, length, map, refl, sym, ◌∙◌, ap, subst, arith}
+use Rattle.std.proofs.Common.{◌≡◌, ℕ, zero, suc, ◌<◌, inl, inr, Bool, true, false, List, [], ◌∷◌, length, map, refl, sym, ◌∙◌, ap, subst, arith}
 use Rattle.std.specs.Prelude.{All}
 use Rattle.std.proofs.lemmas.List.Elements.{All-cons}
 use Rattle.ecp_book.specs.Logs.{Known}
@@ -9,15 +9,15 @@ use Rattle.ecp_code.proofs.DataLaws.{row-data}
 use Rattle.ecp_history.specs.Fronts.{told_table}
 use Rattle.ecp_history.specs.Plans as history
 use Rattle.ecp_history.specs.table.Tables.{PlainTable, HasStripe, block}
-use Rattle.ecp_node.specs.Receipts.{ReceiptState}
 use Rattle.ecp_plan.specs.Plans as plans
 use Rattle.ecp_plan.specs.declared.hop.Hop.{Hop}
 use Rattle.ecp_plan.specs.declared.plan.Plan.{Plan}
 use Rattle.ecp_shape.specs.declared.shape.Shape.{Shape}
-use Rattle.ecp_shape.specs.Range.{IsInRange}
 use Rattle.ecp_slice.specs.OneFile.{three_rows, IsReceiptOf}
 use Rattle.ecp_slice.proofs.OneFiles.{legal, told_is}
-use Rattle.ecp_requestor.specs.OneBlock.{file_bytes, first_block, file_log, file_front}
+use Rattle.ecp_requestor.specs.Assemblies.{begun}
+use Rattle.ecp_requestor.specs.OneBlock.{file_bytes, first_block, file_log, file_front, IsOfFirst}
+use Rattle.ecp_requestor.specs.Renewing.{IsOfBlock}
 
 bytes_are : AreBytes file_bytes
 bytes_are zero = omega arith
@@ -155,3 +155,13 @@ sound_there told plan hop is =
 
 pub takes_the_row : {N : Type 0} (shape : Shape) (told : Bool) (plan : Plan N) (hop : Hop N) → shape ≡ three_rows 2 → TakesTheRow plan hop → plans.IsSound shape told plan
 takes_the_row shape told plan hop of_shape is = subst (λ (s : Shape). plans.IsSound s told plan) (sym of_shape) (sound_there told plan hop is)
+
+-- two plans of one repair for it are of one block
+pub another_attempt : {N : Type 0} (repair : ℕ) (plan next : Plan N) → IsOfFirst repair plan → IsOfFirst repair next → IsOfBlock next (begun plan)
+another_attempt repair plan next a b = record {
+  repair = b.repair_is ∙ sym a.repair_is;
+  stripe = b.stripe ∙ sym a.stripe;
+  row = b.row ∙ sym a.row;
+  block = b.block ∙ sym a.block;
+  size = b.size ∙ sym a.size;
+}

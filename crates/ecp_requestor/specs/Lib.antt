@@ -3,4 +3,9 @@ pub mod Assemblies
 pub mod AssemblyParts
 pub mod BlockParts
 pub mod Blocks
+pub mod Crews
+pub mod Errands
+pub mod Fetching
 pub mod OneBlock
+pub mod Ports
+pub mod Renewing

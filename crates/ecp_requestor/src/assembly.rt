@@ -1,9 +1,10 @@
-ghost use Rattle.std.specs.Prelude.{◌≡◌, ◌↔◌, IfOk, IfErr, IsOk};
+ghost use Rattle.std.specs.Prelude.{◌≡◌, ◌↔◌, IfOk, IfErr, IsOk, IsTrue};
 ghost use Rattle.ecp_plan.specs.Plans.{IsSound};
 ghost use Rattle.ecp_slice.specs.Messages.{IsFull};
 ghost use Rattle.ecp_requestor.specs.Accepting.{answer_to, after, with_slice};
 ghost use Rattle.ecp_requestor.specs.Assemblies.{begun, is_of, is_there, IsComplete, IsAssembly};
 ghost use Rattle.ecp_requestor.specs.Blocks.{assembled, IsAssembled};
+ghost use Rattle.ecp_requestor.specs.Renewing.{renewed, IsOfBlock};
 
 use crate::accepted::Accepted;
 use crate::assembled::Assembled;
@@ -13,6 +14,7 @@ use ecp_slice::SliceMsg;
 use ecp_store::NoMemory;
 use std::alloc::Global;
 use std::marker::Model;
+use std::mem;
 
 /// The slices of one block, as they come home. Contracts see all that it says.
 ///
@@ -47,7 +49,7 @@ impl<N: Names> Model for Assembly<N> {
 impl<N: Names> Assembly<N> {
     /// The assembly of a plan's block, with no slice. The plan stays as it is.
     ///
-    /// This is the only call that takes memory: room for the block, and a place a slice. Want of memory is the only error.
+    /// This is its only call that takes memory: room for the block, and a place a slice. Want of memory is the only error.
     pub fn new(alloc: Global, book: &Book<N>, plan: &mut Plan<N>) -> Result<Assembly<N>, NoMemory>
         requires { IsSound N.shape N.told plan.old }
         ensures assembly { IfOk result (λ a. a ≡ begun plan.old) }
@@ -88,6 +90,22 @@ impl<N: Names> Assembly<N> {
         answer
     }
 
+    /// Takes up the next attempt: forgets all slices, and belongs to the plan, which makes the same block and stays as it
+    /// is. Messages of earlier attempts are `Stale` from then on. Takes no memory.
+    pub fn renew(&mut self, book: &Book<N>, plan: &mut Plan<N>)
+        requires sound { IsSound N.shape N.told plan.old }
+        requires block { IsOfBlock plan.old self.old }
+        ensures state { self.new ≡ renewed self.old plan.old }
+        ensures plan { plan.new ≡ plan.old }
+        ensures sound { IsAssembly N.shape N.told self.new }
+    {
+        let front = book.copy(&mut plan.front);
+        book.end_tag(mem::replace(&mut self.front, front));
+        self.attempt = plan.attempt;
+        self.there.as_mut_slice().fill(false);
+        self.count = 0;
+    }
+
     /// The block, where every slice is there. Else gives the assembly back as it was.
     pub fn complete(self) -> Result<Assembled<N>, Assembly<N>>
         ensures cause { IsOk result ↔ IsComplete self }
@@ -96,7 +114,7 @@ impl<N: Names> Assembly<N> {
         ensures back { IfErr result (λ a. a ≡ self) }
         ensures sound { IfErr result (IsAssembly N.shape N.told) }
     {
-        if self.count as usize != self.there.len() {
+        if !self.is_complete() {
             return Err(self);
         }
         let Assembly {
@@ -112,6 +130,14 @@ impl<N: Names> Assembly<N> {
             front,
             bytes,
         })
+    }
+
+    /// Whether every slice is there.
+    pub(crate) fn is_complete(&self) -> bool
+        ensures complete { IsTrue result ↔ IsComplete self.now }
+        ensures sound { IsAssembly N.shape N.told self.now }
+    {
+        self.count as usize == self.there.len()
     }
 
     // What becomes of a full message.

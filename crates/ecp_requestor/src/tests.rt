@@ -2,6 +2,7 @@ ghost use Rattle.std.specs.Prelude.{◌≡◌, IsTrue};
 ghost use Rattle.ecp_slice.specs.OneFile.{three_rows};
 ghost use Rattle.ecp_node.specs.Nodes.{start_of};
 
+mod fetching;
 mod kept_row;
 
 use super::*;
@@ -33,7 +34,7 @@ fn each_cause<N: Names, S: Store + Drop, R: Abort>(
     requires start { start_of N.stores 0 ≡ record { faults = S.faults store; faultless = S.faultless store } }
 {
     let mut kept = KeptRow::<N, S>::new(alloc, blank, store)?;
-    let mut assembly = kept.assembly(alloc, 5, 2)?;
+    let mut assembly = kept.renewed(alloc, 5, 1, 2)?;
     for (repair, attempt, slice, answer) in [
         (4, 2, 0, Accepted::Foreign(5)),
         (5, 1, 0, Accepted::Stale(2)),

@@ -2,8 +2,9 @@ ghost use Rattle.std.specs.Prelude.{◌≡◌, ◌<◌, IsTrue, IfOk};
 ghost use Rattle.ecp_node.specs.Nodes.{start_of};
 ghost use Rattle.ecp_plan.specs.Plans.{IsSound};
 ghost use Rattle.ecp_slice.specs.OneFile.{three_rows, IsReceiptOf};
-ghost use Rattle.ecp_requestor.specs.OneBlock.{file_front, first_block};
+ghost use Rattle.ecp_requestor.specs.OneBlock.{file_front, first_block, IsOfFirst};
 
+use crate::errand::Errand;
 use crate::{Accepted, Assembly};
 use ecp_book::{Blank, Book, Entered, Names, Tag};
 use ecp_node::{Node, Receipt};
@@ -67,7 +68,8 @@ impl<N: Names, S: Store + Drop> KeptRow<N, S> {
 
     /// The plan that takes the block from its node, in two slices.
     fn plan(&mut self, alloc: Global, repair: u64, attempt: u32) -> Result<Plan<N>, Fail>
-        ensures { IfOk result (IsSound N.shape N.told) }
+        ensures sound { IfOk result (IsSound N.shape N.told) }
+        ensures first { IfOk result (IsOfFirst repair) }
     {
         let mut hops = Vec::with_capacity(alloc, 1)?;
         hops.push(Hop {
@@ -96,15 +98,38 @@ impl<N: Names, S: Store + Drop> KeptRow<N, S> {
         })
     }
 
-    /// An assembly of its block.
-    pub(crate) fn assembly(
+    /// An assembly of its block that took slice 0 of one attempt, and then took up another one.
+    pub(crate) fn renewed(
         &mut self,
         alloc: Global,
         repair: u64,
-        attempt: u32,
+        from: u32,
+        to: u32,
     ) -> Result<Assembly<N>, Fail> {
-        let mut plan = self.plan(alloc, repair, attempt)?;
-        Ok(Assembly::new(alloc, &self.book, &mut plan)?)
+        let mut plan = self.plan(alloc, repair, from)?;
+        let mut next = self.plan(alloc, repair, to)?;
+        let mut assembly = Assembly::new(alloc, &self.book, &mut plan)?;
+        let mut msg = self.started(alloc, repair, from, 0)?;
+        self.add_next(&mut msg)?;
+        if !msg.is_full() {
+            return Err("one helper".into());
+        }
+        if assembly.accept(&self.book, &mut msg) != Accepted::Taken {
+            return Err("taken".into());
+        }
+        assembly.renew(&self.book, &mut next);
+        Ok(assembly)
+    }
+
+    /// A fetch of its block, of which one slice is under way at a time.
+    pub(crate) fn errand(&mut self, alloc: Global) -> Result<Errand<N>, Fail> {
+        let plan = self.plan(alloc, 5, 1)?;
+        Ok(Errand::begin(alloc, &self.book, plan, 1, 0)?)
+    }
+
+    /// The book of its history.
+    pub(crate) fn book(&self) -> &Book<N> {
+        &self.book
     }
 
     /// What an assembly answers to the full message of a slice.
@@ -141,8 +166,8 @@ impl<N: Names, S: Store + Drop> KeptRow<N, S> {
         Ok(msg)
     }
 
-    // Adds the slice of the block's node.
-    fn add_next(&mut self, msg: &mut SliceMsg<N>) -> Result<(), Fail> {
+    /// Adds the slice of the block's node.
+    pub(crate) fn add_next(&mut self, msg: &mut SliceMsg<N>) -> Result<(), Fail> {
         if msg.is_full() || msg.len() != 1 {
             return Err("a helper and a byte".into());
         }

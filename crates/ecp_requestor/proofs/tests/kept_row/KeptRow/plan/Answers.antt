@@ -4,8 +4,8 @@ use Rattle.ecp_plan.specs.declared.hop.Hop.{Hop}
 use Rattle.ecp_requestor.proofs.OneBlocks.{takes_the_row}
 use Rattle.ecp_requestor.proofs.tests.kept_row.KeptRow.plan.Goals as goal
 
-pub returns : goal.returns
-returns g c =
+pub returns-clause-sound : goal.returns-clause-sound
+returns-clause-sound g c =
     let kept = c.args.self.now in
     let hop : Hop g.row.N.Denot = record { row = 0; node = 0; inc = 0; weight = 1; receipt = c.copy.result } in
     let receipt = kept.names in
