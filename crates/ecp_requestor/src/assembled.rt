@@ -33,4 +33,12 @@ impl<N: Names> Assembled<N> {
     {
         &self.bytes
     }
+
+    /// Its bytes, which are not copied.
+    pub fn into_bytes(self) -> Vec<u8>
+        ensures { result.items ≡ self.bytes }
+    {
+        let Assembled { bytes, .. } = self;
+        bytes
+    }
 }

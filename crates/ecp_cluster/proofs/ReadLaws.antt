@@ -1,0 +1,252 @@
+-- A read, from its plan to its end.
+use Rattle.std.proofs.Common.{◌≡◌, ℕ, ◌+◌, ◌-◌, ◌<◌, ◌≤◌, Bool, List, [], ◌∷◌, ◌++◌, length, Option, Some, None, Result, Ok, Err, IfOk, IfErr, OnOk, OnErr, refl, sym, ◌∙◌, ap, subst, arith, inl, inr, append-nil}
+use Rattle.std.specs.Prelude.{All, MatchOption, option_and_then, unwrap_or}
+use Rattle.std.proofs.lemmas.List.Elements.{All-nil, All-push}
+use mathlib.Core.List.{IsPrefix}
+use Rattle.ecp_shape.specs.declared.shape.Shape.{Shape}
+use Rattle.ecp_book.specs.Logs.{Log}
+use Rattle.ecp_book.proofs.Prefixes.{prefix_length}
+use Rattle.ecp_entry.specs.declared.act.Act.{Act}
+use Rattle.ecp_entry.specs.declared.act.Act.TheVariants as act
+use Rattle.ecp_entry.specs.declared.deed.Deed.{Deed}
+use Rattle.ecp_entry.specs.declared.entry.Entry.{Entry}
+use Rattle.ecp_entry.specs.declared.part.Part.TheVariants as part
+use Rattle.ecp_entry.specs.Items.{item}
+use Rattle.ecp_entry.specs.Told.{items_by}
+use Rattle.ecp_plan.specs.declared.plan.Plan.{Plan}
+use Rattle.ecp_sequencer.specs.Facts.{HandFacts, facts_of, entries_noted, room_noted}
+use Rattle.ecp_sequencer.specs.Notes.{Call, call_of, entering_of, note}
+use Rattle.ecp_sequencer.specs.Passes.{PassState}
+use Rattle.ecp_sequencer.specs.Sequencers.{SequencerState}
+use Rattle.ecp_sequencer.specs.Steps.{Called, EndsWith, Event, IsOfCall, Steps, call_with}
+use Rattle.ecp_sequencer.proofs.NoteLaws.{facts-other}
+use Rattle.ecp_sequencer.proofs.StepLaws.{steps_both, steps_none}
+use Rattle.ecp_coord.specs.declared.no_plan.NoPlan.{NoPlan}
+use Rattle.ecp_coord.specs.declared.no_plan.NoPlan.TheVariants as no
+use Rattle.ecp_coord.specs.Calls.{Ends, IsOpen, closing, ended}
+use Rattle.ecp_coord.specs.Coords.{CoordState}
+use Rattle.ecp_coord.specs.Plans.{IsPlanned, Plans, planning_of, refusal_of}
+use Rattle.ecp_coord.specs.Plans as plans
+use Rattle.ecp_coord.specs.Refusals.{Refuses}
+use Rattle.ecp_requestor.specs.Crews.{EndedAt, SameCall}
+use Rattle.ecp_requestor.specs.Fetching.{Advances, Ended, GoesOn}
+use Rattle.ecp_cluster.specs.Answered.{Answered, FoundNone, HasBegun}
+use Rattle.ecp_cluster.specs.Concluded.{Concludes, EndsUnplanned, GoesBy, IsPlannedFrom, ReadBy, WentOn}
+use Rattle.ecp_cluster.specs.declared.answer.Answer.{Answer}
+
+-- ---- what a call asks for
+
+abbrev asked_of : Option Call → Deed → Deed
+asked_of o d = unwrap_or (option_and_then (λ (c : Call). c.deed) o) d
+
+-- an open call asks for one thing
+same_asked : (o : Option Call) (n m : ℕ) (a b : Deed) → o ≡ Some (call_with n a) → o ≡ Some (call_with m b) → a ≡ b
+same_asked o n m a b first second = ap (λ (x : Option Call). asked_of x a) (sym first ∙ second)
+
+-- it asks for what it asked for before
+still_asks : (v w : PassState) (a b : Deed) → IsOpen v a → IsOpen w b → SameCall v w → b ≡ a
+still_asks v w a b is now same = same_asked (facts_of w.notes).call (w.calls - 1) (v.calls - 1) b a now.call (same.1 ∙ is.call)
+
+-- ---- the plan
+
+-- of one event that notes nothing
+waited : (shape : Shape) (told : Bool) (s t : SequencerState) (v w : PassState) → Event shape told s v [] [] t w → w.calls ≡ v.calls → WentOn v w
+waited shape told s t v w event calls = record { more = []; steps = event.steps; calls = calls }
+
+-- of one event that ends it
+concluded : (shape : Shape) (told : Bool) (s t : SequencerState) (v w : PassState) (asked : Deed) (what : Act) → Ends shape told s v asked what t w → Concludes shape told v asked what [] w
+concluded shape told s t v w asked what ends = record {
+  entry = ended v asked (length s.history) what;
+  more = _;
+  steps = ends.event.steps;
+  legal = ends.event.legal;
+  calls = ends.calls;
+  by = refl;
+  of_call = refl;
+  late = prefix_length v.front s.history ends.begins;
+  ends = refl;
+  stands = (s.history, ends.event.front ∙ ends.event.history);
+  act = refl;
+  bytes = refl;
+}
+
+pub unplanned : (shape : Shape) (told : Bool) (s t : CoordState) (v w : PassState) (asked : Deed) (why : NoPlan) → Refuses shape told s v asked (refusal_of why) t w
+    → EndsUnplanned shape told v asked why w
+unplanned shape told s t v w asked no.NoSuchFile r = concluded shape told s.sequence t.sequence v w asked act.NoSuchFile r.event
+unplanned shape told s t v w asked (no.NoSuchBlock count) r = concluded shape told s.sequence t.sequence v w asked (act.NoSuchBlock count) r.event
+unplanned shape told s t v w asked (no.Unrecoverable live) r = concluded shape told s.sequence t.sequence v w asked (act.Unrecoverable live) r.event
+unplanned shape told s t v w asked no.AlreadyLive r = waited shape told s.sequence t.sequence v w r.event r.calls
+unplanned shape told s t v w asked (no.Clash row) r = waited shape told s.sequence t.sequence v w r.event r.calls
+unplanned shape told s t v w asked (no.TargetDown node) r = waited shape told s.sequence t.sequence v w r.event r.calls
+unplanned shape told s t v w asked no.NoMemory r = waited shape told s.sequence t.sequence v w r.event r.calls
+
+pub planned_from : (shape : Shape) (told : Bool) {N : Type 0} (s t : CoordState) (v w : PassState) (asked : Deed) (plan : Plan N) → IsOpen v asked → Plans shape told s v plan t w
+    → IsPlannedFrom shape told v asked plan w
+planned_from shape told s t v w asked plan is p =
+    let call : (facts_of w.notes).call ≡ (facts_of v.notes).call =
+    ap (λ (ns : Log). (facts_of ns).call) p.event.steps.noted
+    ∙ ap (λ (f : HandFacts). f.call) (facts-other v.notes (length s.sequence.history) _ (planning_of plan) (omega arith)) in
+    let same : p.planned.asked ≡ asked = still_asks v w asked p.planned.asked is p.planned.is_open (p.calls, call) in
+    let whole : w.front ≡ plan.front.items = p.event.front ∙ p.event.history ∙ append-nil s.sequence.history ∙ sym p.made.front in
+    record {
+      goes = record { more = _; steps = p.event.steps; is_open = subst (λ (d : Deed). IsOpen w d) same p.planned.is_open; calls = p.calls };
+      planned = p.planned;
+      late = omega (arith, prefix_length v.front w.front p.event.steps.extends, ap (λ (xs : Log). length xs) whole, p.planned.point);
+    }
+
+-- whether there is one or not
+pub planned_either : (shape : Shape) (told : Bool) {N : Type 0} (s t : CoordState) (v w : PassState) (asked : Deed) (result : Result (Plan N) NoPlan) → IsOpen v asked
+    → IfOk result (λ plan. Plans shape told s v plan t w) → IfOk result (λ plan. IsPlannedFrom shape told v asked plan w)
+planned_either shape told s t v w asked (Ok plan) is p = planned_from shape told s t v w asked plan is p
+planned_either shape told s t v w asked (Err why) is p = tt
+
+pub unplanned_either : (shape : Shape) (told : Bool) {N : Type 0} (s t : CoordState) (v w : PassState) (asked : Deed) (result : Result (Plan N) NoPlan)
+    → IfErr result (λ why. Refuses shape told s v asked (refusal_of why) t w) → IfErr result (λ why. EndsUnplanned shape told v asked why w)
+unplanned_either shape told s t v w asked (Ok plan) r = tt
+unplanned_either shape told s t v w asked (Err why) r = unplanned shape told s t v w asked why r
+
+-- ---- the fetch
+
+module _ (shape : Shape) (told : Bool) {N : Type 0} (v p : PassState) (asked : Deed) (plan : Plan N) (from : IsPlannedFrom shape told v asked plan p) where
+  -- what a pass did that went on
+  steps_on : (w : PassState) → GoesOn p w → (more : Log) × Steps p [] more w
+  steps_on w goes = elim goes.steps [
+    | inl same ↦ ([], subst (λ (x : PassState). Steps p [] [] x) (sym same) (steps_none p (ap (λ (h : ℕ). items_by h p.front) from.goes.steps.hand ∙ from.goes.steps.settled)))
+    | inr took ↦ took
+  ]
+
+  asks_on : (w : PassState) (now : Deed) → GoesOn p w → IsOpen w now → IsOpen w asked
+  asks_on w now goes is = subst (λ (d : Deed). IsOpen w d) (still_asks p w asked now from.goes.is_open is goes.call) is
+
+  pub goes_on_from : (plan2 : Plan N) (w : PassState) → Advances shape told p plan plan2 w → IsPlannedFrom shape told v asked plan2 w
+  goes_on_from plan2 w a =
+      let took = steps_on w a.goes in
+      record {
+        goes = record {
+          more = from.goes.more ++ took.0;
+          steps = steps_both v p w [] [] from.goes.more took.0 from.goes.steps took.1;
+          is_open = asks_on w a.planned.asked a.goes a.planned.is_open;
+          calls = a.goes.call.0 ∙ from.goes.calls;
+        };
+        planned = a.planned;
+        late = omega (arith, from.late, a.later.point);
+      }
+
+  pub ended_from : (before : Log) (what : Act) (w : PassState) → EndedAt shape told before p what w → Concludes shape told v asked what [] w
+  ended_from before what w e =
+      let same : e.asked ≡ asked = still_asks p p asked e.asked from.goes.is_open e.is_open (refl, refl) in
+      let x : Entry = ended p e.asked (length before) what in
+      record {
+        entry = x;
+        more = from.goes.more ++ e.more;
+        steps = steps_both v p w [] (x ∷ []) from.goes.more e.more from.goes.steps e.steps;
+        legal = e.legal;
+        calls = e.calls ∙ from.goes.calls;
+        by = from.goes.steps.caller;
+        of_call = ap (λ (n : ℕ). call_with (n - 1) e.asked) from.goes.calls ∙ ap (λ (d : Deed). call_with (v.calls - 1) d) same;
+        late = omega (arith, prefix_length v.front p.front from.goes.steps.extends, prefix_length p.front before e.begins);
+        ends = refl;
+        stands = (before, e.front ∙ ap (λ (h : ℕ). before ++ item h x ∷ []) from.goes.steps.hand);
+        act = refl;
+        bytes = refl;
+      }
+
+  pub given_from : (s t : CoordState) (bytes : List ℕ) (w : PassState) → plans.Finishes shape told s p plan bytes t w → Concludes shape told v asked act.Data bytes w
+  given_from s t bytes w f =
+      let same : f.asked ≡ asked = still_asks p p asked f.asked from.goes.is_open f.is_open (refl, refl) in
+      let x : Entry = closing p f.asked plan.point act.Data bytes in
+      record {
+        entry = x;
+        more = _;
+        steps = steps_both v p w [] (x ∷ []) from.goes.more _ from.goes.steps f.event.steps;
+        legal = f.event.legal;
+        calls = f.calls ∙ from.goes.calls;
+        by = from.goes.steps.caller;
+        of_call = ap (λ (n : ℕ). call_with (n - 1) f.asked) from.goes.calls ∙ ap (λ (d : Deed). call_with (v.calls - 1) d) same;
+        late = from.late;
+        ends = refl;
+        stands = (s.sequence.history, f.event.front ∙ f.event.history ∙ ap (λ (h : ℕ). s.sequence.history ++ item h x ∷ []) from.goes.steps.hand);
+        act = refl;
+        bytes = refl;
+      }
+
+-- with the bytes of the block that was fetched
+pub given_by : (shape : Shape) (told : Bool) {N : Type 0} (v p : PassState) (asked : Deed) (plan : Plan N) (from : IsPlannedFrom shape told v asked plan p) (s t : CoordState) (bytes seen : List ℕ) (w : PassState)
+    → seen ≡ bytes → plans.Finishes shape told s p plan seen t w → Concludes shape told v asked act.Data bytes w
+given_by shape told v p asked plan from s t bytes seen w same f =
+    subst (λ (xs : List ℕ). Concludes shape told v asked act.Data xs w) same (given_from shape told v p asked plan from s t seen w f)
+
+-- a pass that went on from its plan, without another
+pub went_from : (shape : Shape) (told : Bool) {N : Type 0} (v p w : PassState) (asked : Deed) (plan : Plan N) → IsPlannedFrom shape told v asked plan p → GoesOn p w → WentOn v w
+went_from shape told v p w asked plan from goes =
+    let took = steps_on shape told v p asked plan from w goes in
+    record {
+      more = from.goes.more ++ took.0;
+      steps = steps_both v p w [] [] from.goes.more took.0 from.goes.steps took.1;
+      calls = goes.call.0 ∙ from.goes.calls;
+    }
+
+-- what is said of an error, whether there is one
+pub on_err : {R E : Type 0} (result : Result R E) {P : Type 0} → P → OnErr result P
+on_err (Ok r) p = tt
+on_err (Err e) p = p
+
+-- a call that a fetch ended, with the act and the bytes of an answer
+pub ended_by : (shape : Shape) (told : Bool) {N : Type 0} (v p : PassState) (asked : Deed) (plan : Plan N) (from : IsPlannedFrom shape told v asked plan p) (what a : Act) (given : List ℕ) (w : PassState)
+    → Ended shape told p what w → a ≡ what → given ≡ [] → Concludes shape told v asked a given w
+ended_by shape told v p asked plan from what a given w e is none =
+    subst (λ (x : Act). Concludes shape told v asked x given w) (sym is)
+    (subst (λ (xs : List ℕ). Concludes shape told v asked what xs w) (sym none) (ended_from shape told v p asked plan from e.0 what w e.1))
+
+-- ---- the whole call
+
+pub answered_after : (shape : Shape) (told : Bool) (u v w : PassState) (asked : Deed) (what : Act) (given : List ℕ) → HasBegun u asked v → Concludes shape told v asked what given w
+    → Answered shape told u asked what given w
+answered_after shape told u v w asked what given began c =
+    let e : Entry = c.entry in
+    let number : v.calls - 1 ≡ u.calls = omega (arith, began.calls) in
+    let its : IsOfCall u.caller (call_with u.calls asked) e = record { by = c.by ∙ began.steps.caller; of_call = c.of_call ∙ ap (λ (n : ℕ). call_with n asked) number } in
+    let late : length u.front ≤ e.line.point = omega (arith, prefix_length u.front v.front began.steps.extends, c.late) in
+    record {
+      entry = e;
+      called = record {
+        more = began.more ++ c.more;
+        steps = steps_both u v w [] (e ∷ []) began.more c.more began.steps c.steps;
+        legal = c.legal;
+        counted = c.calls ∙ began.calls;
+        own = All-push (IsOfCall u.caller (call_with u.calls asked)) [] e (All-nil (IsOfCall u.caller (call_with u.calls asked))) its;
+        late = All-push (λ (x : Entry). length u.front ≤ x.line.point) [] e (All-nil (λ (x : Entry). length u.front ≤ x.line.point)) late;
+        ends = c.ends;
+        stands = (c.stands.0, c.stands.1 ∙ ap (λ (h : ℕ). c.stands.0 ++ item h e ∷ []) began.steps.hand);
+      };
+      act = c.act;
+      bytes = c.bytes;
+    }
+
+pub none_after : (u v w : PassState) (asked : Deed) → HasBegun u asked v → WentOn v w → FoundNone u w
+none_after u v w asked began goes = record {
+  more = began.more ++ goes.more;
+  steps = steps_both u v w [] [] began.more goes.more began.steps goes.steps;
+  calls = omega (arith, began.calls, goes.calls);
+}
+
+-- whether it was answered or found no memory
+pub answered_either : {E : Type 0} (shape : Shape) (told : Bool) (u v w : PassState) (asked : Deed) (result : Result Answer E) → HasBegun u asked v → IfOk result (λ a. Concludes shape told v asked a.act a.bytes w)
+    → IfOk result (λ a. Answered shape told u asked a.act a.bytes w)
+answered_either shape told u v w asked (Ok a) began c = answered_after shape told u v w asked a.act a.bytes began c
+answered_either shape told u v w asked (Err e) began c = tt
+
+pub none_either : {E : Type 0} (u v w : PassState) (asked : Deed) (result : Result Answer E) → HasBegun u asked v → OnErr result (WentOn v w) → OnErr result (FoundNone u w)
+none_either u v w asked (Ok a) began goes = tt
+none_either u v w asked (Err e) began goes = none_after u v w asked began goes
+
+-- a call that has its plan, read by it
+pub read_either : {N E : Type 0} (shape : Shape) (told : Bool) (v p w : PassState) (asked : Deed) (plan : Plan N) (result : Result Answer E) → IsPlannedFrom shape told v asked plan p
+    → IfOk result (λ a. ReadBy shape told p plan a.act a.bytes w) → IfOk result (λ a. Concludes shape told v asked a.act a.bytes w)
+read_either shape told v p w asked plan (Ok a) from by = by v asked from
+read_either shape told v p w asked plan (Err e) from by = tt
+
+pub goes_either : {N E : Type 0} (shape : Shape) (told : Bool) (v p w : PassState) (asked : Deed) (plan : Plan N) (result : Result Answer E) → IsPlannedFrom shape told v asked plan p
+    → OnErr result (GoesBy shape told p plan w) → OnErr result (WentOn v w)
+goes_either shape told v p w asked plan (Ok a) from by = tt
+goes_either shape told v p w asked plan (Err e) from by = by v asked from

@@ -1,0 +1,5 @@
+pub mod Answered
+pub mod Wiping
+pub mod Ended
+pub mod Opening
+pub mod Concluded

@@ -1,0 +1,168 @@
+//! The call by which a block is read.
+ghost use Rattle.std.specs.Prelude.{◌≡◌, ◌≤◌, [], length, IfOk, IfErr, OnErr};
+ghost use Rattle.ecp_shape.specs.declared.limits.TheConstants.{MAX_NAME};
+ghost use Rattle.ecp_entry.specs.declared.deed.Deed.TheVariants.{Read};
+ghost use Rattle.ecp_coord.specs.Calls.{IsFresh};
+ghost use Rattle.ecp_coord.specs.Plans.{IsPlanned};
+ghost use Rattle.ecp_requestor.specs.Fetching.{Fetches, GoesOn, IsBlockOf};
+ghost use Rattle.ecp_cluster.specs.Answered.{Answered, FoundNone};
+ghost use Rattle.ecp_cluster.specs.Concluded.{Concludes, EndsUnplanned, GoesBy, IsPlannedFrom, ReadBy, WentOn};
+
+use crate::answer::Answer;
+use crate::service::Service;
+use crate::{NoMemory, Pass};
+use ecp_book::Names;
+use ecp_coord::{Ask, NoPlan};
+use ecp_entry::{Act, Deed, Name};
+use ecp_helper::Gate;
+use ecp_plan::Plan;
+use ecp_requestor::{Assembled, Fetched, fetch};
+use ecp_store::{Block, Store};
+use std::sync::Wait;
+
+impl<N: Names, S: Store + Drop, G: Gate> Service<N, S, G> {
+    /// Reads a block of a file: of the block with this number in the file of this name, counted from 0. The answer has the
+    /// act of the call's entry: `Data`, with the block's bytes, `NoSuchFile`, `NoSuchBlock`, `Unrecoverable` or `Unsteady`.
+    ///
+    /// A block that is lost is made of k others of its stripe, which pass slice by slice through the helpers of their nodes.
+    /// The caller's own thread turns the helpers while it waits. Want of memory is the only error: then the call has no
+    /// entry.
+    pub fn read<R: Wait>(
+        &self,
+        rt: &R,
+        pass: &mut Pass<N>,
+        name: &str,
+        index: u32,
+    ) -> Result<Answer, NoMemory>
+        requires some { 1 ≤ length name.now }
+        requires short { length name.now ≤ MAX_NAME }
+        ensures ok { IfOk result (λ a. Answered N.shape N.told pass.old (Read name.now index) a.act a.bytes pass.new) }
+        ensures err { OnErr result (FoundNone pass.old pass.new) }
+    {
+        let deed = Deed::Read {
+            name: Name::new(name),
+            index,
+        };
+        self.begin(rt, pass, deed)?;
+        self.read_on(rt, pass, name, index)
+    }
+
+    // What becomes of a read that began.
+    fn read_on<R: Wait>(
+        &self,
+        rt: &R,
+        pass: &mut Pass<N>,
+        name: &str,
+        index: u32,
+    ) -> Result<Answer, NoMemory>
+        requires named { (1 ≤ length name.now) × (length name.now ≤ MAX_NAME) }
+        requires fresh { IsFresh pass.old (Read name.now index) }
+        ensures ok { IfOk result (λ a. Concludes N.shape N.told pass.old (Read name.now index) a.act a.bytes pass.new) }
+        ensures err { OnErr result (WentOn pass.old pass.new) }
+    {
+        match self.plan_read(rt, pass, name, index) {
+            Ok(plan) => self.read_by(rt, pass, plan),
+            Err(NoPlan::NoSuchFile) => Ok(self.only(Act::NoSuchFile)),
+            Err(NoPlan::NoSuchBlock(count)) => Ok(self.only(Act::NoSuchBlock(count))),
+            Err(NoPlan::Unrecoverable(live)) => Ok(self.only(Act::Unrecoverable(live))),
+            Err(
+                NoPlan::AlreadyLive | NoPlan::Clash(_) | NoPlan::TargetDown(_) | NoPlan::NoMemory,
+            ) => Err(NoMemory),
+        }
+    }
+
+    // The plan of a read, under the coordinator's lock.
+    fn plan_read<R: Wait>(
+        &self,
+        rt: &R,
+        pass: &mut Pass<N>,
+        name: &str,
+        index: u32,
+    ) -> Result<Plan<N>, NoPlan>
+        requires named { (1 ≤ length name.now) × (length name.now ≤ MAX_NAME) }
+        requires fresh { IsFresh pass.old (Read name.now index) }
+        ensures ok { IfOk result (λ plan. IsPlannedFrom N.shape N.told pass.old (Read name.now index) plan pass.new) }
+        ensures err { IfErr result (λ why. EndsUnplanned N.shape N.told pass.old (Read name.now index) why pass.new) }
+    {
+        let ask = Ask::Read { name, index };
+        self.coord.lock(rt).plan(self.alloc, &self.book, pass, ask)
+    }
+
+    // What becomes of a read that has this plan.
+    fn read_by<R: Wait>(
+        &self,
+        rt: &R,
+        pass: &mut Pass<N>,
+        plan: Plan<N>,
+    ) -> Result<Answer, NoMemory>
+        requires { IsPlanned N.shape N.told pass.old plan }
+        ensures ok { IfOk result (λ a. ReadBy N.shape N.told pass.old plan a.act a.bytes pass.new) }
+        ensures err { OnErr result (GoesBy N.shape N.told pass.old plan pass.new) }
+    {
+        match self.fetch_by(rt, pass, plan)? {
+            Fetched::Whole(plan, block) => Ok(self.give(rt, pass, plan, block)),
+            Fetched::Unrecoverable(live) => Ok(self.only(Act::Unrecoverable(live))),
+            Fetched::Unsteady(voids) => Ok(self.only(Act::Unsteady(voids.at))),
+            Fetched::TargetDown(_) => unreachable!(),
+        }
+    }
+
+    // The fetch by the caller's port. Each caller has one: without one, which no caller is, the call would not return.
+    fn fetch_by<R: Wait>(
+        &self,
+        rt: &R,
+        pass: &mut Pass<N>,
+        plan: Plan<N>,
+    ) -> Result<Fetched<N>, NoMemory>
+        requires { IsPlanned N.shape N.told pass.old plan }
+        ensures ok { IfOk result (Fetches N.shape N.told pass.old plan pass.new) }
+        ensures err { OnErr result (GoesOn pass.old pass.new) }
+    {
+        if let Some(port) = self.ports.get(usize::from(pass.caller())) {
+            let mut port = port.lock(rt);
+            return fetch(
+                rt,
+                self.alloc,
+                &self.book,
+                self,
+                pass,
+                plan,
+                &mut port,
+                self.window,
+            );
+        }
+        for _ in rt.forever() {}
+        unreachable!()
+    }
+
+    // The call ends with the bytes of its block, under the coordinator's lock.
+    fn give<R: Wait>(
+        &self,
+        rt: &R,
+        pass: &mut Pass<N>,
+        mut plan: Plan<N>,
+        block: Assembled<N>,
+    ) -> Answer
+        requires planned { IsPlanned N.shape N.told pass.old plan }
+        requires block { IsBlockOf N.shape N.told plan block }
+        ensures { ReadBy N.shape N.told pass.old plan result.act result.bytes pass.new }
+    {
+        self.coord
+            .lock(rt)
+            .finish(&self.book, pass, &mut plan, block.bytes());
+        Answer {
+            act: Act::Data,
+            bytes: Block::new(block.into_bytes()),
+        }
+    }
+
+    // An answer without bytes.
+    fn only(&self, act: Act) -> Answer
+        ensures { (result.act ≡ act) × (result.bytes ≡ []) }
+    {
+        Answer {
+            act,
+            bytes: Block::new(Vec::new(self.alloc)),
+        }
+    }
+}

@@ -1,0 +1,4 @@
+mod closed_together;
+mod lost;
+mod sizes;
+mod unread;

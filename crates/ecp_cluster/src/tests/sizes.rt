@@ -1,0 +1,58 @@
+//! The sizes of the tests, and a service of these sizes over stores in memory.
+ghost use Rattle.std.specs.Prelude.{◌≡◌, IfOk, IsTrue, vec_len};
+ghost use Rattle.ecp_book.specs.Logs.{logs_of};
+ghost use Rattle.ecp_sequencer.specs.Passes.{first_passes};
+ghost use Rattle.ecp_cluster.specs.Opening.{AreStarts};
+
+use crate::{NoMemory, Pass, Service};
+use ecp_book::{Blank, Names};
+use ecp_helper::OpenGate;
+use ecp_shape::Shape;
+use ecp_store::{MemStore, Store};
+use std::alloc::Global;
+
+/// Two rows a stripe, on two nodes.
+pub(super) const SHAPE: Shape = Shape {
+    n: 2,
+    k: 1,
+    nodes: 2,
+    block: 1,
+};
+
+/// How many callers there are, and how many spare hands each has.
+pub(super) const CALLERS: u32 = 2;
+
+pub(super) const SPARE: u32 = 1;
+
+/// How many logs that takes: the history's, those of the nodes, and two for each hand.
+pub(super) const LOGS: u32 = 1 + 2 + 2 * 4;
+
+/// Stores for both nodes, of which no call fails.
+pub(super) fn two_stores(alloc: Global) -> Result<Vec<MemStore>, NoMemory>
+    ensures { IfOk result (λ stores. vec_len stores ≡ 2) }
+{
+    let mut stores = Vec::with_capacity(alloc, 2)?;
+    stores.push(MemStore::new(alloc, Vec::new(alloc))?)?;
+    stores.push(MemStore::new(alloc, Vec::new(alloc))?)?;
+    Ok(stores)
+}
+
+/// A service over these stores, with its passes.
+pub(super) fn opened<N: Names, S: Store + Drop>(
+    alloc: Global,
+    blank: Blank,
+    stores: Vec<S>,
+) -> Result<(Service<N, S, OpenGate>, Vec<Pass<N>>), NoMemory>
+    requires book { (blank ≡ N.book) × (logs_of blank ≡ LOGS) }
+    requires names { (N.callers ≡ CALLERS) × (N.spare_hands ≡ SPARE) × (N.shape ≡ SHAPE) }
+    requires tells { IsTrue S.tells }
+    requires stores { AreStarts S.faults S.faultless N.stores 2 stores.items }
+    ensures { IfOk result (λ r. r.1.items ≡ first_passes 1 2) }
+{
+    match Service::open(
+        alloc, blank, SHAPE, 1, false, 1, SPARE, CALLERS, stores, OpenGate,
+    ) {
+        Ok(made) => Ok(made),
+        Err((NoMemory, _)) => Err(NoMemory),
+    }
+}

@@ -1,0 +1,44 @@
+//! A read of a file that is not there.
+ghost use Rattle.std.specs.Prelude.{◌≡◌, IsTrue};
+ghost use Rattle.ecp_book.specs.Logs.{logs_of};
+ghost use Rattle.ecp_cluster.specs.Opening.{AreStarts};
+
+use super::sizes::{CALLERS, LOGS, SHAPE, SPARE, opened, two_stores};
+use ecp_book::{Blank, Names};
+use ecp_entry::Act;
+use ecp_store::Store;
+use std::alloc::Global;
+use std::marker::Brand;
+use std::process::Abort;
+use std::sync::Wait;
+use std::test::Fail;
+
+#[test]
+#[tactic(auto, using(crate::proofs::OpenLaws::starts_are))]
+fn a_read_of_no_file_has_no_bytes(rt: HostRuntime) -> Result<(), Fail> {
+    let alloc = rt.alloc();
+    let blank = Blank::new(alloc, LOGS)?;
+    let stores = two_stores(alloc)?;
+    unread::<Brand, _, _>(&rt, alloc, blank, stores)
+}
+
+fn unread<N: Names, S: Store + Drop, R: Abort + Wait>(
+    rt: &R,
+    alloc: Global,
+    blank: Blank,
+    stores: Vec<S>,
+) -> Result<(), Fail>
+    requires book { (blank ≡ N.book) × (logs_of blank ≡ LOGS) }
+    requires names { (N.callers ≡ CALLERS) × (N.spare_hands ≡ SPARE) × (N.shape ≡ SHAPE) }
+    requires tells { IsTrue S.tells }
+    requires stores { AreStarts S.faults S.faultless N.stores 2 stores.items }
+{
+    let (service, mut passes) = opened::<N, S>(alloc, blank, stores)?;
+    let mut pass = passes.pop().ok_or("caller 1")?;
+    let answer = service.read(rt, &mut pass, "a", 0)?;
+    assert!(rt; matches!(answer.act, Act::NoSuchFile));
+    assert!(rt; answer.bytes.is_empty());
+    let closed = service.close(rt, passes);
+    assert_eq!(rt; (closed.journal.len(), closed.stores.len()), (1, 2));
+    Ok(())
+}
