@@ -141,7 +141,7 @@ module _ (shape : Shape) (told : Bool) (callers spares : ℕ) where
         counted = subst (DropsCounted shape) (sym (history_of-more history hand e))
             (counted_more shape (history_of history) e kept.counted (λ node. absurd (omega arith)));
         made = subst (All (FitsMaker callers spares)) (sym (made_of-append history (item hand e ∷ []) ∙ ap (λ (m : Made). made_of history ++ m ∷ []) (made_from-item hand e)))
-            (All-push (FitsMaker callers spares) (made_of history) mine kept.made (record { session = λ _. own; node = λ node. absurd (omega arith) }));
+            (All-push (FitsMaker callers spares) (made_of history) mine kept.made (record { session = λ _. own; there = λ _. omega (arith, within, kept.hands); node = λ node. absurd (omega arith) }));
         hands = length-set notes hand (notes_at notes hand ++ x ∷ []) ∙ kept.hands;
         stand = λ h ne. dite (ℕ_discrete h hand)
             (λ (is : h ≡ hand).

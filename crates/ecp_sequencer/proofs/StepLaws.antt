@@ -107,7 +107,7 @@ module _ (callers spares : ℕ) where
 
 -- ---- what steps say of entries
 
-history-items : (hand : ℕ) (mine : List Entry) → history_of (map (item hand) mine) ≡ mine
+pub history-items : (hand : ℕ) (mine : List Entry) → history_of (map (item hand) mine) ≡ mine
 history-items hand [] = refl
 history-items hand (e ∷ mine) =
     history_of-append (item hand e ∷ []) (map (item hand) mine) ∙ ap (λ (es : List Entry). es ++ history_of (map (item hand) mine)) (history_of-item hand e)

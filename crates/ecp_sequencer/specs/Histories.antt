@@ -15,9 +15,10 @@ use Rattle.ecp_sequencer.specs.Facts.{facts_of, entries_noted}
 abbrev pub lines_of : Log → List Line
 lines_of items = map (λ e. e.line) (history_of items)
 
--- an entry of a session is of one of its hands, and one of a node carries the number that is no hand's
+-- an entry of a session is of one of its hands, which there is, and one of a node carries the number that is no hand's
 pub record FitsMaker (callers spares : ℕ) (m : Made) : Type 0 where
   pub session : m.entry.line.caller < MAX_SESSIONS → IsHandOf spares m.entry.line.caller m.hand
+  pub there : m.entry.line.caller < MAX_SESSIONS → m.hand < hands_of callers spares
   pub node : MAX_SESSIONS ≤ m.entry.line.caller → m.hand ≡ hands_of callers spares
 
 -- A note of a hand, behind these notes of it, fits the history. Before its point the hand has just the entries that it noted
