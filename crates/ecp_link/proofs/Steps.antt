@@ -7,7 +7,7 @@ use mathlib.Core.List.{IsPrefix}
 use native.Mathlib.Decide.{dec_le}
 use Rattle.atomic_table.specs.Table.{State, Me, Act, keeps, takes, gives, Valid, stepped, carried_after, Allows, Splits, Joins}
 use Rattle.ecp_link.specs.declared.ring.view.View.{View}
-use Rattle.ecp_link.specs.Rings.{fresh, sender_of, filler_of, taker_of, emptier_of, spent, Stands, IsRing, FindsRoom, FindsItem, filled, emptied, sender_part, taker_part, ended, Knows}
+use Rattle.ecp_link.specs.Rings.{fresh, sender_of, filler_of, taker_of, emptier_of, spent, Fits, Stands, IsRing, FindsRoom, FindsItem, FindsNoItem, filled, emptied, sender_part, taker_part, ended, Knows}
 use Rattle.ecp_link.proofs.Turns.{reseats, takes_free, fills, takes_oldest, empties, splits, joins, rests, there, prefix_whole, prefix_next}
 
 module _ {T : Type 0} where
@@ -138,6 +138,45 @@ module _ {T : Type 0} where
   pub looks_for_item_as : (slots seat : ℕ) (me : Me (Option T) (View T)) → me ≡ (taker_of me.0.sends me.0.pushed me.0.taken me.0.looks, []) → Allows Rule slots seat me 16 (λ n. n) (FindsItem slots me)
   looks_for_item_as slots seat me known =
       subst (λ (m : Me (Option T) (View T)). Allows Rule slots seat m 16 (λ n. n) (FindsItem slots m)) (sym known) (looks_for_item slots seat me.0.sends me.0.pushed me.0.taken me.0.looks)
+
+  looks_for_none : (slots seat : ℕ) (sends : Bool) (pushed items : List T) (looks : List ℕ) → Allows Rule slots seat (taker_of sends pushed items looks, []) 16 (λ n. n) (FindsNoItem (taker_of sends pushed items looks, []))
+  looks_for_none slots seat sends pushed items looks s ring homes at small =
+      let mine = ring.stands.fits seat (taker_of sends pushed items looks) at in
+      let reads = mine.reads refl in
+      let found : ℕ = slice_index s.words 16 in
+      let told : found ≡ length ring.sent = ring.stands.pushed_word in
+      let counted : length items ≡ ring.taken = omega (arith, reads.2) in
+      let ahead : length items ≤ found = let b = ring.stands.behind in omega arith in
+      let me : Me (Option T) (View T) = (taker_of sends pushed items looks, []) in
+      let Done : Type 0 = (w : View T) × (a : Act (Option T)) × Valid s.homes [] a × Rule (stepped s 16 found seat [] w a) × FindsNoItem me found (w, carried_after [] a) in
+      let seated : (w : View T) → Fits ring.sent ring.taken ring.sender ring.taker ring.filling ring.emptying seat w → Rule (stepped s 16 found seat [] w keeps) =
+      λ w fits. loaded ring.sent ring.taken ring.sender ring.taker ring.filling ring.emptying s.words s.homes (set s.views seat w) 16
+      (reseats ring.sent ring.taken ring.sender ring.taker ring.filling ring.emptying s.words s.homes s.views seat w ring.stands fits) in
+      let go : Dec (found ≤ length items) → Done = elim [
+        | yes le ↦ (
+          taker_of sends pushed items (looks ++ found ∷ []),
+          keeps,
+          tt,
+          seated (taker_of sends pushed items (looks ++ found ∷ [])) record { own = mine.own; reads = mine.reads },
+          record {
+            ahead = ahead;
+            none = λ _. (refl, λ t. prefix_whole items ring.sent reads.1 (omega arith) ∙ sym (mine.own t).1);
+            some = λ lt. absurd (omega arith);
+          },
+        )
+        | no gt ↦ (
+          taker_of sends pushed items looks,
+          keeps,
+          tt,
+          seated (taker_of sends pushed items looks) mine,
+          record { ahead = ahead; none = λ le. absurd (gt le); some = λ _. refl },
+        )
+      ] in
+      go (dec_le found (length items))
+
+  pub looks_for_none_as : (slots seat : ℕ) (me : Me (Option T) (View T)) → me ≡ (taker_of me.0.sends me.0.pushed me.0.taken me.0.looks, []) → Allows Rule slots seat me 16 (λ n. n) (FindsNoItem me)
+  looks_for_none_as slots seat me known =
+      subst (λ (m : Me (Option T) (View T)). Allows Rule slots seat m 16 (λ n. n) (FindsNoItem m)) (sym known) (looks_for_none slots seat me.0.sends me.0.pushed me.0.taken me.0.looks)
 
   empties_place : (slots seat count : ℕ) (sends : Bool) (pushed items : List T) (looks : List ℕ) → length items ≡ count + 1
       → Allows Rule slots seat (emptier_of sends pushed items looks, (count % slots, None) ∷ []) 32 (λ _. count + 1) (λ _ w. w ≡ emptied (emptier_of sends pushed items looks, (count % slots, None) ∷ []))

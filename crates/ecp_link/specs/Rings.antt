@@ -84,6 +84,12 @@ module _ {T : Type 0} where
         × (v.0.sends ≡ true → IsPrefix (v.0.taken ++ x ∷ []) v.0.pushed)
     pub none : found ≤ length v.0.taken → (w ≡ (taker_of v.0.sends v.0.pushed v.0.taken (v.0.looks ++ found ∷ []), [])) × (v.0.sends ≡ true → v.0.taken ≡ v.0.pushed)
 
+  -- the taker found so many pushed: either there is none, or the look says nothing
+  pub record FindsNoItem (v : Me (Option T) (View T)) (found : ℕ) (w : Me (Option T) (View T)) : Type 0 where
+    pub ahead : length v.0.taken ≤ found
+    pub none : found ≤ length v.0.taken → (w ≡ (taker_of v.0.sends v.0.pushed v.0.taken (v.0.looks ++ found ∷ []), [])) × (v.0.sends ≡ true → v.0.taken ≡ v.0.pushed)
+    pub some : length v.0.taken < found → w ≡ v
+
   -- the empty place was given back
   abbrev pub emptied : Me (Option T) (View T) → Me (Option T) (View T)
   emptied v = (taker_of v.0.sends v.0.pushed v.0.taken v.0.looks, [])

@@ -32,7 +32,11 @@ fn first_among<T>(ends: &mut [TakerEnd<T>], first: usize, last: usize) -> Option
     ensures none { IfNone result (NoneAmong first last ends.old ends.new) }
 {
     for from in first..last {
-        if let Some(item) = ends[from].take() {
+        let end = &mut ends[from];
+        if end.is_empty() {
+            continue;
+        }
+        if let Some(item) = end.take() {
             return Some(Found { from, item });
         }
     }

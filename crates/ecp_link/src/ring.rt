@@ -11,7 +11,9 @@ mod view;
 use atomic_table::{Seat, Table};
 pub(crate) use rule::InTurn;
 use std::alloc::Global;
-pub(crate) use steps::{Emptied, Ends, Filled, Learn, LookForItem, LookForRoom, Parts};
+pub(crate) use steps::{
+    Emptied, Ends, Filled, Learn, LookForItem, LookForNone, LookForRoom, Parts,
+};
 pub(crate) use view::View;
 
 // The words lie 128 bytes apart, so that they share no cache line with each other or with what lies beside them.

@@ -1,8 +1,10 @@
-ghost use Rattle.std.specs.Prelude.{◌≡◌, length, IfSome, IfNone};
+ghost use Rattle.std.specs.Prelude.{◌≡◌, false, length, IsTrue, IfSome, IfNone};
 ghost use mathlib.Core.List.{IsPrefix};
 ghost use Rattle.ecp_link.specs.Links.{TakesOne, FindsNone, with_end};
 
-use crate::ring::{Emptied, Ends, Learn, LookForItem, PUSHED, Ring, RingSeat, TAKEN, after};
+use crate::ring::{
+    Emptied, Ends, Learn, LookForItem, LookForNone, PUSHED, Ring, RingSeat, TAKEN, after,
+};
 use crate::sender::Sender;
 use std::alloc::Global;
 use std::marker::Model;
@@ -29,6 +31,18 @@ impl<T> Model for TakerEnd<T> {
 }
 
 impl<T> TakerEnd<T> {
+    /// Whether a look finds nothing of the sender. One that finds something changes nothing, and tells nothing.
+    ///
+    /// It handles no item, so that a pop over many senders costs a load for each that sent nothing.
+    pub(crate) fn is_empty(&mut self) -> bool
+        ensures none { IsTrue result → FindsNone self.old self.new }
+        ensures some { result ≡ false → self.new ≡ self.old }
+    {
+        let shared = &self.ring.table.shared;
+        let pushed = shared.load::<LookForNone>(&mut self.seat, PUSHED);
+        pushed == self.taken
+    }
+
     /// Takes the oldest item of the sender, where one is there.
     pub(crate) fn take(&mut self) -> Option<T>
         ensures some { IfSome result (λ x. TakesOne self.old self.new x) }

@@ -1,5 +1,6 @@
 pub mod Bits
 pub mod FullMessages
+mod Handles
 pub mod OneFiles
 pub mod PartialSums
 pub mod Receipts

@@ -28,9 +28,15 @@ use std::marker::Model;
 /// its front tells, and its payload is that sum. So a message of a link, a list or another thread needs no look at what
 /// became of it, and a full one has its slice of the block.
 ///
-/// It may go to another thread, and may be dropped.
+/// It may go to another thread, and may be dropped. Its move is that of a pointer, since it passes through many hands.
 #[derive(Drop)]
 pub struct SliceMsg<N: Names> {
+    parts: Box<Parts<N>>,
+}
+
+/// What a message carries.
+#[derive(Drop)]
+struct Parts<N: Names> {
     repair: u64,
     attempt: u32,
     slice: u32,
@@ -59,9 +65,9 @@ impl<N: Names> Model for SliceMsg<N> {
 
     ghost use Rattle.ecp_slice.specs.MessageParts.{message_seen, IsMessage};
 
-    ghost view = { message_seen };
+    ghost view = { λ m. message_seen m.parts.value };
 
-    ghost invariant = { IsMessage N.shape N.told };
+    ghost invariant = { λ m. IsMessage N.shape N.told m.parts.value };
 }
 
 impl<N: Names> SliceMsg<N> {
@@ -94,7 +100,7 @@ impl<N: Names> SliceMsg<N> {
         let room = zeros(alloc, plan.slice)?;
         let route = hops::receipts(alloc, book, plan.hops.as_mut_slice())?;
         let cancel = cancel.copy()?;
-        Ok(SliceMsg {
+        let parts = Parts {
             repair: plan.repair,
             attempt: plan.attempt,
             slice,
@@ -114,7 +120,9 @@ impl<N: Names> SliceMsg<N> {
             route,
             front: book.copy(&mut plan.front),
             cancel,
-        })
+        };
+        let parts = Box::new(alloc, parts)?;
+        Ok(SliceMsg { parts })
     }
 
     /// Begins another slice of the same attempt: with no helper added, and zeros. Takes no memory.
@@ -122,11 +130,12 @@ impl<N: Names> SliceMsg<N> {
         requires { slice < slice_count self.old.block self.old.size }
         ensures { self.new ≡ restarted self.old slice }
     {
-        self.span = Span::of(self.block, self.size, slice);
-        clear(self.room.as_mut_slice(), self.span.len);
-        self.slice = slice;
-        self.summed = 0;
-        self.at = 0;
+        let parts = &mut *self.parts;
+        parts.span = Span::of(parts.block, parts.size, slice);
+        clear(parts.room.as_mut_slice(), parts.span.len);
+        parts.slice = slice;
+        parts.summed = 0;
+        parts.at = 0;
     }
 
     /// Adds the next helper's slice, which are these bytes, times its weight, and sets its bit. Takes no memory.
@@ -141,10 +150,11 @@ impl<N: Names> SliceMsg<N> {
         requires bytes { IsTrue N.told → bytes.now ≡ slice_of self.old (receipt_at self.old hop).bytes }
         ensures { self.new ≡ after_add self.old hop bytes.now }
     {
-        let weight = self.weights[usize::from(hop)];
-        add_scaled(self.room.as_mut_slice(), self.at == 0, weight, bytes);
-        self.summed |= 1 << hop;
-        self.at += 1;
+        let parts = &mut *self.parts;
+        let weight = parts.weights[usize::from(hop)];
+        add_scaled(parts.room.as_mut_slice(), parts.at == 0, weight, bytes);
+        parts.summed |= 1 << hop;
+        parts.at += 1;
     }
 
     /// Whether every helper was added.
@@ -152,7 +162,7 @@ impl<N: Names> SliceMsg<N> {
         ensures full { IsTrue result ↔ IsFull self.now }
         ensures sound { IsSound N.shape N.told self.now }
     {
-        usize::from(self.at) == self.rows.len()
+        usize::from(self.parts.at) == self.parts.rows.len()
     }
 
     /// Where it goes next: to the node of the helper that is to be added, or home once it is full.
@@ -161,9 +171,9 @@ impl<N: Names> SliceMsg<N> {
         ensures sound { IsSound N.shape N.told self.now }
     {
         if self.is_full() {
-            return Next::Home(self.home);
+            return Next::Home(self.parts.home);
         }
-        Next::Node(self.nodes[usize::from(self.next_hop())])
+        Next::Node(self.parts.nodes[usize::from(self.next_hop())])
     }
 
     /// The helper that is to be added next, by its place among the helpers of the plan.
@@ -172,6 +182,11 @@ impl<N: Names> SliceMsg<N> {
         ensures hop { result ≡ next_hop self.now }
         ensures within { result < helpers self.now }
     {
-        hop_at(self.lanes, self.rows.len() as u8, self.slice, self.at)
+        hop_at(
+            self.parts.lanes,
+            self.parts.rows.len() as u8,
+            self.parts.slice,
+            self.parts.at,
+        )
     }
 }

@@ -90,3 +90,23 @@ impl Play for OneShut {
         Ok(())
     }
 }
+
+#[test]
+fn a_gate_is_shut_through_a_reference(rt: HostRuntime) -> Result<(), Fail> {
+    played::<ShutByReference, _>(&rt, rt.alloc(), &[])
+}
+
+struct ShutByReference;
+
+impl Play for ShutByReference {
+    fn play<N: Names, S: Store + Drop, R: Abort>(
+        rt: &R,
+        scene: &mut Scene<N, S>,
+    ) -> Result<(), Fail> {
+        assert!(rt; scene.moved(&&ShutFor(7)) == Moved::Waited);
+        assert!(rt; scene.moved(&&ShutFor(7)) == Moved::On);
+        assert!(rt; scene.one.to_two.pop().ok_or("at node 2")?.repair() == 8);
+        assert!(rt; scene.moved(&&ShutFor(7)) == Moved::Waited);
+        Ok(())
+    }
+}

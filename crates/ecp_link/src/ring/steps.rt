@@ -1,6 +1,6 @@
 //! The kinds of step on a ring.
 ghost use Rattle.std.specs.Prelude.{◌≡◌};
-ghost use Rattle.ecp_link.specs.Rings.{FindsRoom, FindsItem, filled, emptied, sender_part, taker_part, ended, spent, Knows};
+ghost use Rattle.ecp_link.specs.Rings.{FindsRoom, FindsItem, FindsNoItem, filled, emptied, sender_part, taker_part, ended, spent, Knows};
 
 use crate::ring::view::View;
 use atomic_table::{Join, Play, Split};
@@ -24,6 +24,13 @@ pub(crate) struct LookForItem;
 
 impl<T> Play<Option<T>, View<T>> for LookForItem {
     ghost then = { λ s v n w. FindsItem s.slots v n w };
+}
+
+/// The taker's load of the pushed word, which is a look where there is no item, and else says nothing.
+pub(crate) struct LookForNone;
+
+impl<T> Play<Option<T>, View<T>> for LookForNone {
+    ghost then = { λ s v n w. FindsNoItem v n w };
 }
 
 /// The taker's store of the taken word, which gives the empty place back.

@@ -19,7 +19,7 @@ impl<N: Names> SliceMsg<N> {
         ensures front { result ≡ record { log = history_log; items = self.old.front } }
         ensures kept { self.new ≡ self.old }
     {
-        book.copy(&mut self.front)
+        book.copy(&mut self.parts.front)
     }
 
     /// The receipt of a helper: a copy, which names the same bytes. Takes no memory.
@@ -28,7 +28,7 @@ impl<N: Names> SliceMsg<N> {
         ensures receipt { result ≡ receipt_at self.old hop }
         ensures kept { self.new ≡ self.old }
     {
-        let receipt = &mut self.route[usize::from(hop)];
+        let receipt = &mut self.parts.route[usize::from(hop)];
         receipt.copy(book)
     }
 
@@ -53,9 +53,9 @@ impl<N: Names> SliceMsg<N> {
         ensures node { node.new ≡ after_read result node.old (named (next_receipt self.old)) self.old.len node.new.store_faults }
         ensures kept { self.new ≡ self.old }
     {
-        let off = self.span.off;
+        let off = self.parts.span.off;
         let hop = usize::from(self.next_hop());
-        let receipt = &mut self.route[hop];
+        let receipt = &mut self.parts.route[hop];
         node.read_slice(book, receipt, off, buf)
     }
 
@@ -64,7 +64,7 @@ impl<N: Names> SliceMsg<N> {
         ensures read { self.new ≡ record self.old { cancel = after_look self.old.cancel result } }
         ensures found { Finds self.old.cancel.known result }
     {
-        self.cancel.read()
+        self.parts.cancel.read()
     }
 
     /// Changes the cancel word to the reason where it is 0, by one exchange, and answers the word that it found. Its
@@ -75,7 +75,7 @@ impl<N: Names> SliceMsg<N> {
         ensures set { self.new ≡ record self.old { cancel = after_set self.old.cancel reason result } }
         ensures found { Finds self.old.cancel.known result }
     {
-        self.cancel.set(reason)
+        self.parts.cancel.set(reason)
     }
 
     /// What its handle knows of the cancel word, without a step: 0, or the reason that the word has for good.
@@ -83,13 +83,13 @@ impl<N: Names> SliceMsg<N> {
         ensures known { result ≡ self.now.cancel.known }
         ensures most { result ≤ CALL_ENDED }
     {
-        self.cancel.known()
+        self.parts.cancel.known()
     }
 
     /// Whether a [`set_cancel`](SliceMsg::set_cancel) of this very message changed the cancel word, without a step.
     pub fn wrote(&self) -> bool
         ensures { result ≡ self.now.cancel.wrote }
     {
-        self.cancel.wrote()
+        self.parts.cancel.wrote()
     }
 }

@@ -4,6 +4,7 @@ use Rattle.ecp_book.specs.Logs.{Known}
 use Rattle.ecp_plan.specs.declared.hop.Hop.{Hop}
 use Rattle.ecp_plan.specs.declared.plan.Plan.{Plan}
 use Rattle.ecp_slice.specs.Messages.{started}
+use Rattle.ecp_slice.specs.MessageParts.{message_seen, IsMessage}
 use Rattle.ecp_slice.specs.Sound.{IsSound}
 use Rattle.ecp_slice.proofs.SameVecs.{same_vec}
 use Rattle.ecp_slice.proofs.SoundMessages.{begun, named_started, plan_started, started_is}
@@ -25,6 +26,12 @@ returns-clause-plan g c =
     ap (λ hops. record plan { hops = hops; front = c.copy-2.new.tag }) (same_vec plan.hops c.receipts.new.hops (c.in_ok-route.ensures.kept ∙ c.as_mut_slice.ensures.value))
     ∙ ap (λ front. record plan { front = front }) c.copy-2.ensures.kept
 
+pub returns-in_err-parts-clause-plan : goal.returns-in_err-parts-clause-plan
+returns-in_err-parts-clause-plan g c =
+    let plan : Plan g.row.N.Denot = c.args.plan.now in
+    ap (λ hops. record plan { hops = hops; front = c.copy-2.new.tag }) (same_vec plan.hops c.receipts.new.hops (c.in_ok-route.ensures.kept ∙ c.as_mut_slice.ensures.value))
+    ∙ ap (λ front. record plan { front = front }) c.copy-2.ensures.kept
+
 pub returns-clause-message : goal.returns-clause-message
 returns-clause-message g c =
     let plan : Plan g.row.N.Denot = c.args.plan.now in
@@ -39,7 +46,7 @@ returns-clause-message g c =
     (c.in_ok-route.ensures.receipts ∙ ap (map (λ hop. hop.receipt)) c.as_mut_slice.ensures.value)
     (ap (λ (t : Known). t.items) c.copy-2.ensures.copy)
     c.in_ok-cancel.ensures.copy in
-    seen
+    ap message_seen c.in_ok-parts.ensures.ok ∙ seen
 
 pub invariant_of-result : goal.invariant_of-result
 invariant_of-result g c =
@@ -59,7 +66,8 @@ invariant_of-result g c =
     let told = g.N.Names.told in
     let first = c.args.slice in
     let handle = c.args.cancel.now in
-    record {
+    subst (IsMessage shape told) (sym c.in_ok-parts.ensures.ok)
+    (record {
       of_history = ap (λ (t : Known). t.log) c.copy-2.ensures.copy ∙ c.requires.sound.front;
       roomy = ap length c.in_ok-room.ensures ∙ length-replicate plan.slice 0;
       few = omega (arith, ap length (c.in_ok-rows.ensures ∙ ap (map (λ hop. hop.row)) c.deref.ensures.value), length-map plan.hops.items (λ (hop : Hop g.row.N.Denot). hop.row), plan.hops.ok.0, c.len.ensures);
@@ -67,4 +75,4 @@ invariant_of-result g c =
           subst (IsSound shape told) (sym seen)
           (begun shape told (started plan first handle c.args.home) (plan_started shape told plan first handle c.args.home c.requires.sound) (named_started shape told plan first handle c.args.home c.requires.sound)
           (record { of_block = c.requires.slice; begins = refl; ends = omega (arith, c.of.ensures.begins, c.of.ensures.len, c.of.ensures.ends) }) refl refl refl);
-    }
+    })
