@@ -128,7 +128,7 @@ module _ (callers spares caller hand : ℕ) (e : Entry) (session : caller < MAX_
       (λ k its apart. (or_none (of_hand k x) (list_any (of_hand k) xs) (others k its apart)).1))
 
 -- the caller of a hand is one of the callers
-caller_in_range : (callers spares caller : ℕ) → own_hand spares caller < hands_of callers spares → caller < callers
+pub caller_in_range : (callers spares caller : ℕ) → own_hand spares caller < hands_of callers spares → caller < callers
 caller_in_range callers spares caller in_range = elim (cases_lt caller callers) [
   | inl below ↦ below
   | inr past ↦ elim (cases_lt callers caller) [

@@ -40,7 +40,7 @@ tags_kept nodes history after tags hand e are grown none = record {
 }
 
 -- an own hand is one caller's alone
-own_of_one : (spares caller k : ℕ) → IsHandOf spares k (own_hand spares caller) → k ≡ caller
+pub own_of_one : (spares caller k : ℕ) → IsHandOf spares k (own_hand spares caller) → k ≡ caller
 own_of_one spares caller k its = elim (cases_lt k caller) [
   | inl below ↦ absurd (let far = hands_fit caller spares k below in omega (arith, far, its.within))
   | inr from ↦ elim (cases_lt caller k) [

@@ -37,4 +37,6 @@ pub mod BeginLaws
 pub mod StartLaws
 pub mod SpineLaws
 pub mod OpenLaws
+pub mod SameLaws
 pub mod OneStripeLaws
+pub mod OneByteLaws

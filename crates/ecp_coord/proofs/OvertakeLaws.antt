@@ -139,7 +139,7 @@ lowest : (b : Bool) (m : ℕ) → (cond b 1 0 + 2 * m) % 2 ≡ cond b 1 0
 lowest true m = omega arith
 lowest false m = omega arith
 
-bit_of : (nodes : List Node) (m : ℕ) → bit_at (mask_of (map (λ x. x.up) nodes)) m ≡ cond (option_map_or (λ x. x.up) (slice_get nodes m) false) 1 0
+pub bit_of : (nodes : List Node) (m : ℕ) → bit_at (mask_of (map (λ x. x.up) nodes)) m ≡ cond (option_map_or (λ x. x.up) (slice_get nodes m) false) 1 0
 bit_of [] m = bit_at-zero m
 bit_of (x ∷ nodes) zero = bit_at_lowest (cond x.up 1 0 + 2 * mask_of (map (λ y. y.up) nodes)) ∙ lowest x.up (mask_of (map (λ y. y.up) nodes))
 bit_of (x ∷ nodes) (suc m) =

@@ -12,3 +12,4 @@ pub mod Attempts
 pub mod Puts
 pub mod Rounds
 pub mod OneStripe
+pub mod OneByte

@@ -6,7 +6,12 @@ ghost use Rattle.ecp_coord.specs.Coords.{at_start, AreNodeLogs};
 mod calls;
 mod plans;
 mod puts;
+mod reads;
+mod refusals;
 mod spine;
+mod tries;
+mod unsteady;
+mod worked;
 
 use super::*;
 use ecp_book::{Blank, Book, Keeper, Names};

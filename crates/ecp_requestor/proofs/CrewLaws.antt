@@ -17,6 +17,7 @@ use Rattle.ecp_coord.specs.Plans.{IsPlanned, Moves, Did, found_by_replanning, pl
 use Rattle.ecp_coord.specs.Plans as plans
 use Rattle.ecp_coord.specs.declared.replanned.Replanned.{Replanned}
 use Rattle.ecp_coord.specs.declared.replanned.Replanned.TheVariants.{Planned, StillGood, Unrecoverable, TargetDown, Unsteady}
+use Rattle.ecp_coord.proofs.SameLaws.{planned_by}
 use Rattle.ecp_requestor.specs.Crews.{MovesOn, StaysOn, EndsOn, Replans}
 use Rattle.ecp_requestor.specs.Fetching.{IsLater, Advances}
 
@@ -37,37 +38,12 @@ moves_past before old new m =
 -- ---- what an answer leaves
 
 module _ (shape : Shape) (told : Bool) {N : Type 0} where
-  -- a plan is one of a pass by the hand, the notes and the calls alone
-  pub planned_by : (v w : PassState) (plan : Plan N) → w.hand ≡ v.hand → w.calls ≡ v.calls → w.notes ≡ v.notes → IsPlanned shape told v plan → IsPlanned shape told w plan
-  planned_by v w plan hand calls notes is =
-      let by : ℕ → ℕ → Log → PassState = λ (h c : ℕ) (ns : Log). record { caller = w.caller; hand = h; calls = c; front = w.front; notes = ns; spare = w.spare } in
-      let at_first : IsPlanned shape told (by v.hand v.calls v.notes) plan = record {
-        asked = is.asked;
-        is_open = record { begun = is.is_open.begun; call = is.is_open.call; room = is.is_open.room };
-        last = is.last;
-        sound = is.sound;
-        block = is.block;
-        recoverable = is.recoverable;
-        point = is.point;
-        own = is.own;
-        attempt = is.attempt;
-        most = is.most;
-        voids = is.voids;
-        room = is.room;
-        fits = is.fits;
-        live = is.live;
-        onto = is.onto;
-      } in
-      subst (λ (ns : Log). IsPlanned shape told (by w.hand w.calls ns) plan) (sym notes)
-      (subst (λ (c : ℕ). IsPlanned shape told (by w.hand c v.notes) plan) (sym calls)
-      (subst (λ (h : ℕ). IsPlanned shape told (by h v.calls v.notes) plan) (sym hand) at_first))
-
   pub stays_on : (before : Log) (v w : PassState) (old new : Plan N) → IsPlanned shape told v old → StaysOn before v old new w → Advances shape told v old new w
   stays_on before v w old new planned s =
       let notes : w.notes ≡ v.notes = s.steps.noted ∙ append-nil v.notes in
       record {
         goes = record { steps = inr ([], s.steps); call = (s.calls, ap (λ (ns : Log). (facts_of ns).call) notes) };
-        planned = subst (IsPlanned shape told w) (sym s.same) (planned_by v w old s.steps.hand s.calls notes planned);
+        planned = subst (IsPlanned shape told w) (sym s.same) (planned_by shape told v w old notes s.steps.hand s.calls planned);
         later = subst (IsLater old) (sym s.same) (record { repair = refl; stripe = refl; row = refl; point = omega arith });
       }
 
