@@ -20,6 +20,7 @@ use Rattle.ecp_sequencer.specs.Steps.{Steps, IsOfCall, call_with}
 use Rattle.ecp_sequencer.proofs.StepLaws.{steps_both, steps_raised}
 use Rattle.ecp_coord.specs.Calls.{IsOpen, ended}
 use Rattle.ecp_cluster.specs.Answered.{Answered, Finishes, HasBegun}
+use Rattle.ecp_cluster.proofs.CallLaws.{open_same}
 
 -- the one entry of the next call of a pass, which ends it
 abbrev only_entry : PassState → Deed → ℕ → Act → Entry
@@ -80,11 +81,4 @@ raised_finishes shape told v r w asked act rises fin = record {
 
 -- its call is open as before
 pub raised_open : (v r : PassState) (asked : Deed) → Raised v r → IsOpen v asked → IsOpen r asked
-raised_open v r asked rises is =
-    let notes : r.notes ≡ v.notes = ap (λ (x : PassState). x.notes) rises.same in
-    let calls : r.calls ≡ v.calls = ap (λ (x : PassState). x.calls) rises.same in
-    record {
-      begun = omega (arith, is.begun, calls);
-      call = ap (λ (ns : Log). (facts_of ns).call) notes ∙ is.call ∙ ap (λ (n : ℕ). Some (call_with (n - 1) asked)) (sym calls);
-      room = omega (arith, is.room, ap (λ (ns : Log). room_noted ns) notes);
-    }
+raised_open v r asked rises is = open_same v r asked (ap (λ (x : PassState). x.notes) rises.same) (ap (λ (x : PassState). x.calls) rises.same) is

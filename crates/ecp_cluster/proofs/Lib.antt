@@ -3,4 +3,7 @@ pub mod WipeLaws
 pub mod PaidLaws
 pub mod OpenLaws
 pub mod WorkLaws
+pub mod CallLaws
 pub mod ReadLaws
+pub mod PutLaws
+pub mod KeepLaws

@@ -33,42 +33,15 @@ use Rattle.ecp_requestor.specs.Fetching.{Advances, Ended, GoesOn}
 use Rattle.ecp_cluster.specs.Answered.{Answered, FoundNone, HasBegun}
 use Rattle.ecp_cluster.specs.Concluded.{Concludes, EndsUnplanned, GoesBy, IsPlannedFrom, ReadBy, WentOn}
 use Rattle.ecp_cluster.specs.declared.answer.Answer.{Answer}
+use Rattle.ecp_cluster.proofs.CallLaws.{concluded, same_asked, waited}
 
 -- ---- what a call asks for
-
-abbrev asked_of : Option Call → Deed → Deed
-asked_of o d = unwrap_or (option_and_then (λ (c : Call). c.deed) o) d
-
--- an open call asks for one thing
-same_asked : (o : Option Call) (n m : ℕ) (a b : Deed) → o ≡ Some (call_with n a) → o ≡ Some (call_with m b) → a ≡ b
-same_asked o n m a b first second = ap (λ (x : Option Call). asked_of x a) (sym first ∙ second)
 
 -- it asks for what it asked for before
 still_asks : (v w : PassState) (a b : Deed) → IsOpen v a → IsOpen w b → SameCall v w → b ≡ a
 still_asks v w a b is now same = same_asked (facts_of w.notes).call (w.calls - 1) (v.calls - 1) b a now.call (same.1 ∙ is.call)
 
 -- ---- the plan
-
--- of one event that notes nothing
-waited : (shape : Shape) (told : Bool) (s t : SequencerState) (v w : PassState) → Event shape told s v [] [] t w → w.calls ≡ v.calls → WentOn v w
-waited shape told s t v w event calls = record { more = []; steps = event.steps; calls = calls }
-
--- of one event that ends it
-concluded : (shape : Shape) (told : Bool) (s t : SequencerState) (v w : PassState) (asked : Deed) (what : Act) → Ends shape told s v asked what t w → Concludes shape told v asked what [] w
-concluded shape told s t v w asked what ends = record {
-  entry = ended v asked (length s.history) what;
-  more = _;
-  steps = ends.event.steps;
-  legal = ends.event.legal;
-  calls = ends.calls;
-  by = refl;
-  of_call = refl;
-  late = prefix_length v.front s.history ends.begins;
-  ends = refl;
-  stands = (s.history, ends.event.front ∙ ends.event.history);
-  act = refl;
-  bytes = refl;
-}
 
 pub unplanned : (shape : Shape) (told : Bool) (s t : CoordState) (v w : PassState) (asked : Deed) (why : NoPlan) → Refuses shape told s v asked (refusal_of why) t w
     → EndsUnplanned shape told v asked why w
@@ -186,11 +159,6 @@ went_from shape told v p w asked plan from goes =
       calls = goes.call.0 ∙ from.goes.calls;
     }
 
--- what is said of an error, whether there is one
-pub on_err : {R E : Type 0} (result : Result R E) {P : Type 0} → P → OnErr result P
-on_err (Ok r) p = tt
-on_err (Err e) p = p
-
 -- a call that a fetch ended, with the act and the bytes of an answer
 pub ended_by : (shape : Shape) (told : Bool) {N : Type 0} (v p : PassState) (asked : Deed) (plan : Plan N) (from : IsPlannedFrom shape told v asked plan p) (what a : Act) (given : List ℕ) (w : PassState)
     → Ended shape told p what w → a ≡ what → given ≡ [] → Concludes shape told v asked a given w
@@ -198,47 +166,7 @@ ended_by shape told v p asked plan from what a given w e is none =
     subst (λ (x : Act). Concludes shape told v asked x given w) (sym is)
     (subst (λ (xs : List ℕ). Concludes shape told v asked what xs w) (sym none) (ended_from shape told v p asked plan from e.0 what w e.1))
 
--- ---- the whole call
-
-pub answered_after : (shape : Shape) (told : Bool) (u v w : PassState) (asked : Deed) (what : Act) (given : List ℕ) → HasBegun u asked v → Concludes shape told v asked what given w
-    → Answered shape told u asked what given w
-answered_after shape told u v w asked what given began c =
-    let e : Entry = c.entry in
-    let number : v.calls - 1 ≡ u.calls = omega (arith, began.calls) in
-    let its : IsOfCall u.caller (call_with u.calls asked) e = record { by = c.by ∙ began.steps.caller; of_call = c.of_call ∙ ap (λ (n : ℕ). call_with n asked) number } in
-    let late : length u.front ≤ e.line.point = omega (arith, prefix_length u.front v.front began.steps.extends, c.late) in
-    record {
-      entry = e;
-      called = record {
-        more = began.more ++ c.more;
-        steps = steps_both u v w [] (e ∷ []) began.more c.more began.steps c.steps;
-        legal = c.legal;
-        counted = c.calls ∙ began.calls;
-        own = All-push (IsOfCall u.caller (call_with u.calls asked)) [] e (All-nil (IsOfCall u.caller (call_with u.calls asked))) its;
-        late = All-push (λ (x : Entry). length u.front ≤ x.line.point) [] e (All-nil (λ (x : Entry). length u.front ≤ x.line.point)) late;
-        ends = c.ends;
-        stands = (c.stands.0, c.stands.1 ∙ ap (λ (h : ℕ). c.stands.0 ++ item h e ∷ []) began.steps.hand);
-      };
-      act = c.act;
-      bytes = c.bytes;
-    }
-
-pub none_after : (u v w : PassState) (asked : Deed) → HasBegun u asked v → WentOn v w → FoundNone u w
-none_after u v w asked began goes = record {
-  more = began.more ++ goes.more;
-  steps = steps_both u v w [] [] began.more goes.more began.steps goes.steps;
-  calls = omega (arith, began.calls, goes.calls);
-}
-
--- whether it was answered or found no memory
-pub answered_either : {E : Type 0} (shape : Shape) (told : Bool) (u v w : PassState) (asked : Deed) (result : Result Answer E) → HasBegun u asked v → IfOk result (λ a. Concludes shape told v asked a.act a.bytes w)
-    → IfOk result (λ a. Answered shape told u asked a.act a.bytes w)
-answered_either shape told u v w asked (Ok a) began c = answered_after shape told u v w asked a.act a.bytes began c
-answered_either shape told u v w asked (Err e) began c = tt
-
-pub none_either : {E : Type 0} (u v w : PassState) (asked : Deed) (result : Result Answer E) → HasBegun u asked v → OnErr result (WentOn v w) → OnErr result (FoundNone u w)
-none_either u v w asked (Ok a) began goes = tt
-none_either u v w asked (Err e) began goes = none_after u v w asked began goes
+-- ---- the call with its plan
 
 -- a call that has its plan, read by it
 pub read_either : {N E : Type 0} (shape : Shape) (told : Bool) (v p w : PassState) (asked : Deed) (plan : Plan N) (result : Result Answer E) → IsPlannedFrom shape told v asked plan p

@@ -3,3 +3,5 @@ pub mod Wiping
 pub mod Ended
 pub mod Opening
 pub mod Concluded
+pub mod Puts
+pub mod Keeping

@@ -1,4 +1,6 @@
 //! The calls of a service, each with a pass of its caller.
 mod beginning;
+mod keeping;
 mod lose;
+mod put;
 mod read;

@@ -1,4 +1,5 @@
 ghost use Rattle.std.specs.Prelude.{◌≡◌, ◌≤◌, length};
+ghost use Rattle.ecp_shape.specs.Range.{IsInRange};
 
 use crate::room::Room;
 use ecp_book::{Book, Names};
@@ -27,6 +28,7 @@ pub struct Service<N: Names, S: Store, G: Gate> {
     pub(crate) room: Mutex<Room<N, S>>,
     pub(crate) alloc: Global,
     ghost shaped: { shape ≡ N.shape },
+    ghost in_range: { IsInRange N.shape },
     ghost each_node: { length helpers.items ≡ N.shape.nodes },
     ghost each_caller: { length ports.items ≡ N.callers },
     ghost some: { 1 ≤ window },

@@ -12,7 +12,7 @@ use std::sync::Wait;
 
 impl<N: Names, S: Store, G: Gate> Service<N, S, G> {
     /// Begins the pass's next call, under the coordinator's lock. Want of memory is the only error.
-    pub(super) fn begin<R: Wait>(
+    pub(crate) fn begin<R: Wait>(
         &self,
         rt: &R,
         pass: &mut Pass<N>,

@@ -2,7 +2,8 @@ use Rattle.std.proofs.Common.{subst}
 use Rattle.ecp_entry.specs.declared.act.Act.TheVariants as act
 use Rattle.ecp_requestor.specs.Fetching.{Fetches}
 use Rattle.ecp_requestor.specs.declared.fetched.Fetched.{Fetched}
-use Rattle.ecp_cluster.proofs.ReadLaws.{ended_by, goes_on_from, on_err, went_from}
+use Rattle.ecp_cluster.proofs.CallLaws.{on_err}
+use Rattle.ecp_cluster.proofs.ReadLaws.{ended_by, goes_on_from, went_from}
 use Rattle.ecp_cluster.proofs.service.Service.read_by.Goals as goal
 
 pub returns-in_err-plan-clause-err : goal.returns-in_err-plan-clause-err
