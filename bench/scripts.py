@@ -1,8 +1,8 @@
 #!/usr/bin/env python3
 """Writes an input for `ecpipe run`: 10,000 calls, 16 MiB of puts, 64 MiB of reads, or some calls at random, of one
-session or of several.
+session or of several, or 512 reads of one block, live or lost.
 
-Usage: scripts.py calls | puts | reads | random SEED | sessions SEED"""
+Usage: scripts.py calls | puts | reads | random SEED | sessions SEED | block K live|lost SLICE WINDOW"""
 import random
 import sys
 
@@ -28,6 +28,14 @@ def reads():
     yield f"put f hex {'5a' * 4_194_304}\n"
     yield "lose 1\n"
     yield from (f"read f {i % 64}\n" for i in range(1024))
+
+
+def block(k, state, slice_size, window):
+    """512 reads of block 0 of a stripe of k blocks of 64 KiB, which is live, or lost with its node."""
+    yield head(k, k + 2, k + 2, 65536, f"slice = {slice_size}\nwindow = {window}\n")
+    yield f"put f hex {random.Random(k).randbytes(k * 65536).hex()}\n"
+    yield "lose 0\n" if state == "lost" else "lose 1\n"
+    yield from ("read f 0\n" for _ in range(512))
 
 
 def some(seed):
@@ -99,6 +107,9 @@ def sessions(seed):
 
 
 def main(words):
+    if words[0] == "block":
+        sys.stdout.writelines(block(int(words[1]), words[2], *map(int, words[3:])))
+        return
     kinds = {"calls": calls, "puts": puts, "reads": reads}
     seeded = {"random": some, "sessions": sessions}
     lines = seeded[words[0]](int(words[1])) if words[0] in seeded else kinds[words[0]]()

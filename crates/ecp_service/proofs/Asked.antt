@@ -1,10 +1,11 @@
 -- What is promised for the commands that are wanted holds for those that words ask for.
-use Rattle.std.proofs.Common.{ℕ, List, inl, inr}
+use Rattle.std.proofs.Common.{ℕ, List, inl, inr, refl, subst}
 use Rattle.ecp_command.specs.Words.{IsSpelled}
 use Rattle.ecp_command.specs.declared.words.commands.Command.{Command}
 use Rattle.ecp_command.specs.declared.words.commands.Command.TheVariants.{Run, RunDir, Mend, Check, Soak}
-use Rattle.ecp_service.specs.Answers.{Asks, Wanted, NothingWanted, WantsScript}
-use Rattle.ecp_service.specs.Ends.{Ends, Answers, IsCutShort, IsTold, IsTakenFrom}
+use Rattle.ecp_service.specs.Answers.{Asks, IsAnswer, Only, Wanted, NothingWanted, WantsScript}
+use Rattle.ecp_service.specs.Ends.{Ends, Answers, IsCutShort, IsStopped, IsTold, IsTakenFrom}
+use Rattle.ecp_service.specs.Paid.{Storage}
 use Rattle.ecp_service.specs.Stops.{IsReason}
 use Rattle.ecp_service.specs.declared.stop.Stop.{Stop}
 use Rattle.ecp_service.specs.declared.stop.Stop.TheVariants.{Usage, Refused, ReadFault, NoMemory, TooLong}
@@ -44,13 +45,48 @@ module _ {R W E : Type 0} (s : source.Ghosts R) (w : sink.Ghosts W) (e : sink.Gh
   reason_asked old new NoMemory nothing script is = is
   reason_asked old new TooLong nothing script is = is
 
-  answers_asked : (old new : R) (text : List ℕ) → ((c : Command) → wanted c → asked c) → Answers s wanted old new text → Answers s asked old new text
-  answers_asked old new text more a = record { bytes = a.bytes; read = a.read; command = a.command; asked = more a.command a.asked; answer = a.answer }
+  answers_asked : (d : Storage) (old new : R) (text : List ℕ) → ((c : Command) → wanted c → asked c) → Answers s wanted d old new text → Answers s asked d old new text
+  answers_asked d old new text more a = record { bytes = a.bytes; read = a.read; command = a.command; asked = more a.command a.asked; answer = a.answer }
 
   -- what is cut short, where no less is asked for than is wanted
-  pub cut_asked : (old new : Ends R W E) → ((c : Command) → wanted c → asked c) → (NothingWanted wanted → NothingWanted asked)
-      → IsCutShort s w e wanted old new → IsCutShort s w e asked old new
-  cut_asked old new more nothing (inl cut) =
-      inl (record { text = cut.text; answer = answers_asked old.input new.input cut.text more cut.answer; got = cut.got; quiet = cut.quiet })
-  cut_asked old new more nothing (inr cut) =
+  pub cut_asked : (d : Storage) (old new : Ends R W E) → ((c : Command) → wanted c → asked c) → (NothingWanted wanted → NothingWanted asked)
+      → IsCutShort s w e wanted d old new → IsCutShort s w e asked d old new
+  cut_asked d old new more nothing (inl cut) =
+      inl (record { text = cut.text; answer = answers_asked d old.input new.input cut.text more cut.answer; got = cut.got; quiet = cut.quiet })
+  cut_asked d old new more nothing (inr cut) =
       inr (record { stop = cut.stop; reason = reason_asked old.input new.input cut.stop nothing (more Run) cut.reason; said = cut.said; nothing = cut.nothing })
+
+  -- and what is stopped
+  pub stopped_asked : (old new : Ends R W E) (status : ℕ) → ((c : Command) → wanted c → asked c) → (NothingWanted wanted → NothingWanted asked)
+      → IsStopped s e wanted old new status → IsStopped s e asked old new status
+  stopped_asked old new status more nothing stopped = record {
+    stop = stopped.stop;
+    coded = stopped.coded;
+    reason = reason_asked old.input new.input stopped.stop nothing (more Run) stopped.reason;
+    said = stopped.said;
+    nothing = stopped.nothing;
+  }
+
+-- what is cut short of a row, whatever stores there are
+pub mend_cut : {R W E : Type 0} (s : source.Ghosts R) (w : sink.Ghosts W) (e : sink.Ghosts E) (asked : Wanted) (k n t : ℕ) (d other : Storage) (old new : Ends R W E)
+    → asked (Mend k n t) → IsCutShort s w e (Only (Mend k n t)) d old new → IsCutShort s w e asked other old new
+mend_cut s w e asked k n t d other old new is (inl cut) =
+    inl (record {
+      text = cut.text;
+      answer = record {
+        bytes = cut.answer.bytes;
+        read = cut.answer.read;
+        command = Mend k n t;
+        asked = is;
+        answer = subst (λ (c : Command). IsAnswer d c cut.answer.bytes cut.text) cut.answer.asked cut.answer.answer;
+      };
+      got = cut.got;
+      quiet = cut.quiet;
+    })
+mend_cut s w e asked k n t d other old new is (inr cut) =
+    inr (record {
+      stop = cut.stop;
+      reason = reason_asked s w e (Only (Mend k n t)) asked old.input new.input cut.stop (λ none. absurd (none (Mend k n t) refl)) (λ same. absurd (cc same)) cut.reason;
+      said = cut.said;
+      nothing = cut.nothing;
+    })

@@ -1,9 +1,16 @@
+pub mod Inputs
 mod Pieces
 mod Asked
 mod Stopping
 mod Sending
 mod JournalLines
+mod AnswerLines
 mod ReplyLines
-pub mod plain_table
+mod Sessions
+mod ServedLaws
+pub mod served
+mod FirstPasses
+pub mod ServedRuns
+mod RunLaws
 pub mod TextLines
 pub mod OneJournal

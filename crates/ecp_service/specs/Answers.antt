@@ -1,5 +1,5 @@
 -- What a command answers on its output.
-use Rattle.std.specs.Prelude.{◌≡◌, ℕ, true, List, length, ⊤}
+use Rattle.std.specs.Prelude.{◌≡◌, ℕ, true, IsTrue, List, length, ⊤}
 use Rattle.ecp_code.specs.Rows.{row}
 use Rattle.ecp_code.specs.Stripes.{blocks, stripe_len}
 use Rattle.ecp_command.specs.Input.Accepted.{Content, IsAccepted}
@@ -9,9 +9,9 @@ use Rattle.ecp_command.specs.declared.words.commands.Command.TheVariants.{Run, R
 use Rattle.ecp_entry.specs.declared.entry.Entry.{Entry}
 use Rattle.ecp_entry.specs.declared.line.Line.{Line}
 use Rattle.ecp_shape.specs.declared.shape.Shape.{Shape}
-use Rattle.ecp_history.specs.Counted.{faults_spent}
 use Rattle.ecp_history.specs.Legal.{IsLegal}
 use Rattle.ecp_command.specs.Input.Settings.{shape_of}
+use Rattle.ecp_service.specs.Paid.{Storage}
 use Rattle.ecp_service.specs.Past.{past}
 use Rattle.ecp_service.specs.Printed.{ArePrintable}
 use Rattle.ecp_service.specs.RunText.{run_text}
@@ -21,28 +21,32 @@ use Rattle.ecp_service.specs.Serves.{Serves}
 abbrev pub rebuilt : ℕ → ℕ → List ℕ → List ℕ
 rebuilt k t bytes = row (blocks k (stripe_len k (length bytes)) bytes) t
 
--- a legal history that serves the input, in which no entry spends a fault of a store
-pub record IsHistoryOf (shape : Shape) (content : Content) (history : List Entry) : Type 0 where
+-- a legal history that serves the input, and whose failures of stores the stores paid for
+pub record IsHistoryOf (paid : List Entry → Type 0) (shape : Shape) (content : Content) (history : List Entry) : Type 0 where
   pub legal : IsLegal shape true history
   pub serves : Serves shape content history
-  pub faultless : (node : ℕ) → faults_spent node history ≡ 0
+  pub paid_for : paid history
 
--- the bytes are an accepted input, and the text is that of the history which it has with the lines of some journal
-pub record IsRunOf (bytes text : List ℕ) : Type 0 where
-  pub content : Content
-  pub accepted : IsAccepted bytes content
+-- the text is that of the history which the content has with the lines of some journal
+pub record IsTextOf (paid : List Entry → Type 0) (content : Content) (text : List ℕ) : Type 0 where
   pub journal : List Line
   pub printable : ArePrintable journal
   pub written : text ≡ run_text content (past (shape_of content.head) content journal)
-  pub history : IsHistoryOf (shape_of content.head) content (past (shape_of content.head) content journal)
+  pub history : IsHistoryOf paid (shape_of content.head) content (past (shape_of content.head) content journal)
 
--- the text is the answer of the command to an input of these bytes
-abbrev pub IsAnswer : Command → List ℕ → List ℕ → Type 0
-IsAnswer (Mend k n t) bytes text = text ≡ rebuilt k t bytes
-IsAnswer Run bytes text = IsRunOf bytes text
-IsAnswer (RunDir path) bytes text = ⊥
-IsAnswer Check bytes text = ⊥
-IsAnswer (Soak seed) bytes text = ⊥
+-- the bytes are an accepted input, and the text is that of a history of it, where the stores tell what they hold
+pub record IsRunOf (d : Storage) (bytes text : List ℕ) : Type 0 where
+  pub content : Content
+  pub accepted : IsAccepted bytes content
+  pub text_of : IsTrue d.tells → IsTextOf d.paid content text
+
+-- the text is the answer of the command to an input of these bytes, over these stores
+abbrev pub IsAnswer : Storage → Command → List ℕ → List ℕ → Type 0
+IsAnswer d (Mend k n t) bytes text = text ≡ rebuilt k t bytes
+IsAnswer d Run bytes text = IsRunOf d bytes text
+IsAnswer d (RunDir path) bytes text = ⊥
+IsAnswer d Check bytes text = ⊥
+IsAnswer d (Soak seed) bytes text = ⊥
 
 -- the commands that are wanted: by the words of a command line, or one alone
 abbrev pub Wanted : Type 1

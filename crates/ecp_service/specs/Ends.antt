@@ -6,6 +6,7 @@ use Rattle.ecp_command.specs.declared.words.commands.Command.{Command}
 use Rattle.ecp_command.specs.declared.input.refusal.Refusal.{Refusal}
 use Rattle.ecp_command.specs.declared.input.refusal.Refusal.TheVariants as refusal
 use Rattle.ecp_service.specs.Answers.{Wanted, NothingWanted, WantsScript, IsAnswer, Takes}
+use Rattle.ecp_service.specs.Paid.{Storage}
 use Rattle.ecp_service.specs.Sinks.{GotAll, GotPart}
 use Rattle.ecp_service.specs.Sources.{IsRead, GaveTooMuch, GaveFew}
 use Rattle.ecp_service.specs.Stops.{code_of, line_of, IsReason}
@@ -27,17 +28,17 @@ abbrev pub ends : {R W E : Type 0} → R → W → E → Ends R W E
 ends input out diag = record { input = input; out = out; diag = diag }
 
 -- the input was read to its end, and the text is the answer of a wanted command to it
-pub record Answers {R : Type 0} (s : source.Ghosts R) (wanted : Wanted) (old new : R) (text : List ℕ) : Type 0 where
+pub record Answers {R : Type 0} (s : source.Ghosts R) (wanted : Wanted) (d : Storage) (old new : R) (text : List ℕ) : Type 0 where
   pub bytes : List ℕ
   pub read : IsRead s old new bytes
   pub command : Command
   pub asked : wanted command
-  pub answer : IsAnswer command bytes text
+  pub answer : IsAnswer d command bytes text
 
 -- done: the output got the answer, flushed, no end failed, and nothing was said on the diagnostic sink
-pub record IsDone {R W E : Type 0} (s : source.Ghosts R) (w : sink.Ghosts W) (wanted : Wanted) (old new : Ends R W E) : Type 0 where
+pub record IsDone {R W E : Type 0} (s : source.Ghosts R) (w : sink.Ghosts W) (wanted : Wanted) (d : Storage) (old new : Ends R W E) : Type 0 where
   pub text : List ℕ
-  pub answer : Answers s wanted old.input new.input text
+  pub answer : Answers s wanted d old.input new.input text
   pub got : GotAll w old.out new.out text
   pub quiet : new.diag ≡ old.diag
 
@@ -51,9 +52,9 @@ pub record IsStopped {R W E : Type 0} (s : source.Ghosts R) (e : sink.Ghosts E) 
   pub nothing : new.out ≡ old.out
 
 -- the output failed and got a part of the answer, and nothing was said
-pub record IsAnswerCut {R W E : Type 0} (s : source.Ghosts R) (w : sink.Ghosts W) (wanted : Wanted) (old new : Ends R W E) : Type 0 where
+pub record IsAnswerCut {R W E : Type 0} (s : source.Ghosts R) (w : sink.Ghosts W) (wanted : Wanted) (d : Storage) (old new : Ends R W E) : Type 0 where
   pub text : List ℕ
-  pub answer : Answers s wanted old.input new.input text
+  pub answer : Answers s wanted d old.input new.input text
   pub got : GotPart w old.out new.out text
   pub quiet : new.diag ≡ old.diag
 
@@ -65,8 +66,8 @@ pub record IsLineCut {R W E : Type 0} (s : source.Ghosts R) (e : sink.Ghosts E) 
   pub nothing : new.out ≡ old.out
 
 -- cut short by a failed write
-abbrev pub IsCutShort : {R W E : Type 0} → source.Ghosts R → sink.Ghosts W → sink.Ghosts E → Wanted → Ends R W E → Ends R W E → Type 0
-IsCutShort s w e wanted old new = IsAnswerCut s w wanted old new ⊎ IsLineCut s e wanted old new
+abbrev pub IsCutShort : {R W E : Type 0} → source.Ghosts R → sink.Ghosts W → sink.Ghosts E → Wanted → Storage → Ends R W E → Ends R W E → Type 0
+IsCutShort s w e wanted d old new = IsAnswerCut s w wanted d old new ⊎ IsLineCut s e wanted old new
 
 -- the status is that of this reason, or the line of a reason could not be written
 abbrev pub IsToldAs : Stop → ℕ → Type 0

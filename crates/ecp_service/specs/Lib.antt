@@ -1,12 +1,16 @@
 pub mod Answers
 pub mod Asked
 pub mod Ends
+pub mod Over
+pub mod Paid
 pub mod Past
-pub mod plain
 pub mod Printed
 pub mod RunLines
 pub mod RunText
+pub mod Servable
+pub mod Served
 pub mod Serves
 pub mod Sinks
+pub mod Sizing
 pub mod Sources
 pub mod Stops

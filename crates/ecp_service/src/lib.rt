@@ -2,7 +2,8 @@
 //!
 //! `top` reads the words of a command line and runs the command that they ask for: one read of the
 //! input to its end, the work, and one answer, on the output or as one line on the diagnostic sink.
-//! `mend` rebuilds one row of a stripe, and `run` serves the calls of a script over a plain table.
+//! `mend` rebuilds one row of a stripe, and `run` serves the calls of a script over
+//! nodes, each with one of the given stores.
 //!
 //! It stands on `ecp_command` for the words and the script, on `ecp_history` for the table, the journal and
 //! the replies, on `ecp_code` for the rows of a stripe and on `ecp_store` for sources and sinks. The program
@@ -14,16 +15,18 @@ mod buffer;
 mod commands;
 mod journal_lines;
 pub mod laws;
-mod plain;
+mod memory;
 mod reading;
 mod reply_lines;
 mod run_lines;
+mod serving;
 mod stop;
 mod writing;
 
 pub use answer::{DONE, WRITE_FAULT, refuse};
 pub use commands::mending::mend;
 pub use commands::top::top;
+pub use memory::stores_in_memory;
 pub use stop::Stop;
 
 #[cfg(test)]

@@ -1,11 +1,14 @@
 mod generated;
 mod scripts;
+mod served;
 
 use super::*;
-use ecp_shape::limits::MAX_INPUT;
-use ecp_store::{MemSink, MemSource};
+use ecp_helper::OpenGate;
+use ecp_shape::limits::{MAX_INPUT, MAX_NODES};
+use ecp_store::{MemSink, MemSource, MemStore};
 use std::alloc::{AllocError, Global};
 use std::process::Abort;
+use std::sync::Wait;
 use std::test::Fail;
 
 const USAGE: &[u8] = b"usage: ecpipe run | run-dir PATH | mend K N ROW | check | soak SEED\n";
@@ -56,14 +59,29 @@ fn words_of(alloc: Global, line: &str) -> Result<Vec<String>, AllocError> {
     Ok(words)
 }
 
-fn leaves(alloc: Global, run: &Run, bytes: Vec<u8>) -> Result<bool, Fail> {
+fn leaves<R: Wait>(rt: &R, alloc: Global, run: &Run, bytes: Vec<u8>) -> Result<bool, Fail> {
+    let (as_said, _) = ran(rt, alloc, run, bytes)?;
+    Ok(as_said)
+}
+
+/// Whether the run leaves what it says, and its stores.
+fn ran<R: Wait>(
+    rt: &R,
+    alloc: Global,
+    run: &Run,
+    bytes: Vec<u8>,
+) -> Result<(bool, Vec<MemStore>), Fail> {
     let piece = run.piece.max(1);
     let mut input = MemSource::new(bytes, piece, run.failing_pulls.to_vec(alloc)?);
     let mut out = MemSink::new(alloc, 4096, piece, run.failing_pushes.to_vec(alloc)?)?;
     let mut diag = MemSink::new(alloc, 4096, piece, Vec::new(alloc))?;
     let words = words_of(alloc, run.words)?;
-    let status = top(alloc, &words, &mut input, &mut out, &mut diag);
-    Ok(status == run.status && out.bytes() == run.out && diag.bytes() == run.diag)
+    let given = stores_in_memory(alloc)?;
+    let (status, stores) = top(
+        rt, alloc, &words, &mut input, &mut out, &mut diag, given, &OpenGate,
+    );
+    let as_said = status == run.status && out.bytes() == run.out && diag.bytes() == run.diag;
+    Ok((as_said, stores))
 }
 
 fn row(words: &'static str, input: &'static [u8], out: &'static [u8]) -> Run {
@@ -85,12 +103,12 @@ fn stop(words: &'static str, status: u8, diag: &'static [u8]) -> Run {
     }
 }
 
-fn each_leaves<R: Abort>(rt: &R, alloc: Global, runs: &[Run]) -> Result<(), Fail> {
+fn each_leaves<R: Abort + Wait>(rt: &R, alloc: Global, runs: &[Run]) -> Result<(), Fail> {
     for (at, run) in runs.iter().enumerate() {
         for piece in [1, 3, 65_536] {
             let run = Run { piece, ..*run };
             let bytes = run.bytes(alloc)?;
-            assert!(rt; leaves(alloc, &run, bytes)?, "run {at} by {piece}");
+            assert!(rt; leaves(rt, alloc, &run, bytes)?, "run {at} by {piece}");
         }
     }
     Ok(())
@@ -146,10 +164,10 @@ fn says_why_it_stops(rt: HostRuntime) -> Result<(), Fail> {
 }
 
 /// Whether an input of so many bytes is too long for a run: one of comment bytes behind its head.
-fn is_too_long(alloc: Global, run: &Run, len: usize) -> Result<bool, Fail> {
+fn is_too_long<R: Wait>(rt: &R, alloc: Global, run: &Run, len: usize) -> Result<bool, Fail> {
     let mut bytes = run.bytes(alloc)?;
     bytes.resize(len, b'#')?;
-    leaves(alloc, run, bytes)
+    leaves(rt, alloc, run, bytes)
 }
 
 const TOO_LONG: Run = Run {
@@ -162,7 +180,7 @@ const TOO_LONG: Run = Run {
 
 #[test]
 fn an_input_one_byte_past_its_limit_is_too_long(rt: HostRuntime) -> Result<(), Fail> {
-    assert!(rt; is_too_long(rt.alloc(), &TOO_LONG, MAX_INPUT + 1)?);
+    assert!(rt; is_too_long(&rt, rt.alloc(), &TOO_LONG, MAX_INPUT + 1)?);
     Ok(())
 }
 
@@ -173,8 +191,8 @@ fn a_long_input_is_too_long_to_mend(rt: HostRuntime) -> Result<(), Fail> {
         input: b"",
         ..TOO_LONG
     };
-    assert!(rt; is_too_long(rt.alloc(), &run, 16_777_218)?);
-    assert!(rt; is_too_long(rt.alloc(), &run, 16_777_300)?);
+    assert!(rt; is_too_long(&rt, rt.alloc(), &run, 16_777_218)?);
+    assert!(rt; is_too_long(&rt, rt.alloc(), &run, 16_777_300)?);
     Ok(())
 }
 
@@ -184,8 +202,8 @@ fn a_long_input_with_a_bad_head_is_too_long(rt: HostRuntime) -> Result<(), Fail>
         input: b"k = 0\n---\n",
         ..TOO_LONG
     };
-    assert!(rt; is_too_long(rt.alloc(), &run, 16_777_218)?);
-    assert!(rt; is_too_long(rt.alloc(), &run, 16_777_300)?);
+    assert!(rt; is_too_long(&rt, rt.alloc(), &run, 16_777_218)?);
+    assert!(rt; is_too_long(&rt, rt.alloc(), &run, 16_777_300)?);
     Ok(())
 }
 
@@ -196,7 +214,7 @@ fn a_long_script_of_comments_is_too_long(rt: HostRuntime) -> Result<(), Fail> {
         input: b"# a comment\n",
         ..TOO_LONG
     };
-    assert!(rt; is_too_long(rt.alloc(), &run, 16_777_218)?);
-    assert!(rt; is_too_long(rt.alloc(), &run, 16_777_300)?);
+    assert!(rt; is_too_long(&rt, rt.alloc(), &run, 16_777_218)?);
+    assert!(rt; is_too_long(&rt, rt.alloc(), &run, 16_777_300)?);
     Ok(())
 }

@@ -3,6 +3,7 @@ ghost use Rattle.ecp_command.specs.Words.{IsRow};
 ghost use Rattle.ecp_command.specs.declared.words.commands.Command.{Command};
 ghost use Rattle.ecp_service.specs.Answers.{Only};
 ghost use Rattle.ecp_service.specs.Ends.{ends, Answers, IsDone, IsStopped, IsCutShort, IsTold, IsTakenFrom, IsComplete};
+ghost use Rattle.ecp_service.specs.Paid.{no_stores};
 ghost use Rattle.ecp_service.specs.Sources.{GaveTooMuch, GaveFew};
 ghost use Rattle.ecp_service.specs.Stops.{StopsRead};
 ghost use Rattle.ecp_service.specs.declared.stop.Stop.{Stop};
@@ -17,7 +18,7 @@ use std::alloc::Global;
 /// The row of the input that it is asked for.
 fn rebuild<R: Source>(alloc: Global, k: u32, n: u32, row: u32, input: &mut R) -> Result<Block, Stop>
     requires { IsRow k n row }
-    ensures row { IfOk result (Answers R.Source (Only (Command.Mend k n row)) input.old input.new) }
+    ensures row { IfOk result (Answers R.Source (Only (Command.Mend k n row)) no_stores input.old input.new) }
     ensures err { IfErr result (StopsRead R.Source input.old input.new) }
     ensures few { GaveFew R.Source input.old input.new }
     ensures too_long { IsTrue R.tells → GaveTooMuch R.Source input.old input.new → result ≡ Err Stop.TooLong }
@@ -51,11 +52,11 @@ pub fn mend<R: Source, W: Sink, E: Sink>(
 ) -> u8
     requires { IsRow k n row }
     ensures done { result ≡ DONE →
-        IsDone R.Source W.Sink (Only (Command.Mend k n row)) (ends input.old out.old diag.old) (ends input.new out.new diag.new) }
+        IsDone R.Source W.Sink (Only (Command.Mend k n row)) no_stores (ends input.old out.old diag.old) (ends input.new out.new diag.new) }
     ensures stopped { result ≢ DONE → result ≢ WRITE_FAULT →
         IsStopped R.Source E.Sink (Only (Command.Mend k n row)) (ends input.old out.old diag.old) (ends input.new out.new diag.new) result }
     ensures cut_short { result ≡ WRITE_FAULT →
-        IsCutShort R.Source W.Sink E.Sink (Only (Command.Mend k n row)) (ends input.old out.old diag.old) (ends input.new out.new diag.new) }
+        IsCutShort R.Source W.Sink E.Sink (Only (Command.Mend k n row)) no_stores (ends input.old out.old diag.old) (ends input.new out.new diag.new) }
     ensures told { IsTold R.Source (Only (Command.Mend k n row)) input.old input.new result }
     ensures taken { IsTakenFrom R.Source (Only (Command.Mend k n row)) input.old input.new }
     ensures complete { IsComplete R.Source W.Sink E.Sink (Only (Command.Mend k n row)) (ends input.old out.old diag.old) (ends input.new out.new diag.new) result }

@@ -92,7 +92,7 @@ fn serves_twenty_scripts_drawn_at_random(rt: HostRuntime) -> Result<(), Fail> {
             ..row("run", script.as_bytes(), text.as_bytes())
         };
         assert!(rt;
-            leaves(rt.alloc(), &run, run.bytes(rt.alloc())?)?,
+            leaves(&rt, rt.alloc(), &run, run.bytes(rt.alloc())?)?,
             "{script}"
         );
     }

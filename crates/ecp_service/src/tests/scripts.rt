@@ -244,6 +244,6 @@ fn a_fault_of_the_output_cuts_the_text_short(rt: HostRuntime) -> Result<(), Fail
         ..DONE_RUN
     };
     let bytes = run.bytes(rt.alloc())?;
-    assert!(rt; leaves(rt.alloc(), &run, bytes)?);
+    assert!(rt; leaves(&rt, rt.alloc(), &run, bytes)?);
     Ok(())
 }

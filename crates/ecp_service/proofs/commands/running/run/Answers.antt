@@ -3,7 +3,8 @@ use Rattle.ecp_command.specs.Input.Accepted.{MayRefuse}
 use Rattle.ecp_command.specs.declared.words.commands.Command.TheVariants.{Run}
 use Rattle.ecp_command.proofs.Inputs.Unique.{not_refused}
 use Rattle.ecp_service.specs.Answers.{Only, IsRunOf}
-use Rattle.ecp_service.specs.Stops.{code_of, refusal_code}
+use Rattle.ecp_service.specs.Paid.{storage}
+use Rattle.ecp_service.specs.Stops.{code_of, refusal_code, IsReason}
 use Rattle.ecp_service.specs.declared.stop.Stop.TheVariants as stop
 use Rattle.ecp_service.proofs.Stopping.{left_of_two, refused_code, accepted_code, code_or_fault}
 use Rattle.ecp_service.proofs.commands.running.run.Goals as goal
@@ -11,33 +12,35 @@ use Rattle.ecp_service.proofs.commands.running.run.Goals as goal
 pub returns-in-Ok-clause-told : goal.returns-in-Ok-clause-told
 returns-in-Ok-clause-told g c = record {
   usage = λ none. absurd (none Run refl);
-  too_long = λ told much. absurd (cc (c.in-Ok.ensures.too_long told much));
+  too_long = λ told much. absurd (cc (c.in-Ok.is, c.run_input-ran.ensures.too_long told much));
   refused = λ script told short sound r some may.
-      let run = c.in-Ok.ensures.run in
-      let answer : IsRunOf run.bytes _ = rw run.asked at run.answer in
+      let run = rw c.in-Ok.is at c.run_input-ran.ensures.run in
+      let answer : IsRunOf (storage g.S.Store.tells g.S.Store.faults g.S.Store.faultless c.args.stores.items c.run_input-ran.result.1.items) run.bytes _ = rw run.asked at run.answer in
       absurd (not_refused run.bytes answer.content r some answer.accepted (subst (λ (bytes : List ℕ). MayRefuse bytes r) (sym (run.read.given told)) may));
 }
 
 pub returns-in-Ok-clause-taken : goal.returns-in-Ok-clause-taken
-returns-in-Ok-clause-taken g c = record { few = c.in-Ok.ensures.few; untouched = λ none. absurd (none Run refl) }
+returns-in-Ok-clause-taken g c = record { few = c.run_input-ran.ensures.few; untouched = λ none. absurd (none Run refl) }
 
 pub returns-in-Err-clause-told : goal.returns-in-Err-clause-told
 returns-in-Err-clause-told g c =
     let e = c.refuse.ensures in
     let s = g.R.Source in
+    let why : IsReason s (Only Run) c.args.input.now c.run_input-ran.new.input c.in-Err.stop = rw c.in-Err.is at c.run_input-ran.ensures.err in
     record {
       usage = λ none. absurd (none Run refl);
       too_long = λ told much.
-          let is : c.in-Err.stop ≡ stop.TooLong = cc (c.in-Err.ensures.too_long told much) in
+          let is : c.in-Err.stop ≡ stop.TooLong = cc (c.in-Err.is, c.run_input-ran.ensures.too_long told much) in
           rw is at e.status;
       refused = λ script told short sound r some may.
           code_or_fault c.refuse.result (code_of c.in-Err.stop) (refusal_code r) e.status
-          (refused_code s (Only Run) c.args.input.now c.run_input.new.input c.in-Err.stop r (λ none. none Run refl) c.in-Err.ensures.err told short sound some may);
+          (refused_code s (Only Run) c.args.input.now c.run_input-ran.new.input c.in-Err.stop r (λ none. none Run refl) why told short sound some may);
     }
 
 pub returns-in-Err-clause-complete : goal.returns-in-Err-clause-complete
 returns-in-Err-clause-complete g c command is told short takes none =
     let e = c.refuse.ensures in
     let accepted = rw is at takes in
+    let why : IsReason g.R.Source (Only Run) c.args.input.now c.run_input-ran.new.input c.in-Err.stop = rw c.in-Err.is at c.run_input-ran.ensures.err in
     inr (left_of_two e.status (λ fault. none.diag (e.cut_short fault).failed)
-    ∙ accepted_code g.R.Source (Only Run) c.args.input.now c.run_input.new.input c.in-Err.stop accepted.0 (λ none. none Run refl) c.in-Err.ensures.err told short none.input accepted.1)
+    ∙ accepted_code g.R.Source (Only Run) c.args.input.now c.run_input-ran.new.input c.in-Err.stop accepted.0 (λ none. none Run refl) why told short none.input accepted.1)

@@ -1,0 +1,14 @@
+-- The proofs that a run over nodes is a run of a plain table.
+pub mod Lists
+pub mod Kept
+pub mod Passes
+pub mod Callers
+pub mod Entries
+pub mod Pasts
+pub mod Fits
+pub mod Inputs
+pub mod Points
+pub mod Stripes
+pub mod Runs
+pub mod Texts
+pub mod NoNodes

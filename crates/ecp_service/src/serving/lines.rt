@@ -1,0 +1,88 @@
+//! What a run writes: the replies of its session, and the journal.
+ghost use Rattle.std.specs.Prelude.{◌≡◌, ◌⊎◌, ◌++◌, [], flat_map};
+ghost use Rattle.ecp_service.specs.RunLines.{session_line};
+ghost use Rattle.ecp_service.specs.Served.{answer_line, run_lines};
+ghost use Rattle.ecp_service.specs.Sinks.{Delivers, GotAll, GotPart, Writes};
+
+use crate::answer::{DONE, WRITE_FAULT};
+use crate::buffer::Buffer;
+use crate::reply_lines::{write_data, write_start};
+use crate::run_lines::{write_history, write_session};
+use crate::serving::over::SessionRun;
+use crate::serving::ran::Ran;
+use ecp_cluster::Answer;
+use ecp_entry::{Act, Reply};
+use ecp_history::Journal;
+use ecp_store::{Failed, Sink};
+
+/// Writes the reply line to a call that was answered so.
+fn write_answer<W: Sink>(buffer: &mut Buffer, out: &mut W, answer: &Answer) -> Result<(), Failed>
+    ensures { Writes W.Sink result (out.old, buffer.old) (out.new, buffer.new) (answer_line answer.now) }
+{
+    match &answer.act {
+        Act::Data => write_data(buffer, out, answer.bytes.bytes()),
+        ended => write_start(buffer, out, &Reply::Ended(*ended)),
+    }
+}
+
+/// Writes the reply lines to calls that were answered so.
+fn write_answers<W: Sink>(
+    buffer: &mut Buffer,
+    out: &mut W,
+    answers: &[Answer],
+) -> Result<(), Failed>
+    ensures { Writes W.Sink result (out.old, buffer.old) (out.new, buffer.new) (flat_map answer_line answers.now) }
+{
+    for answer in answers {
+        write_answer(buffer, out, answer)?;
+    }
+    Ok(())
+}
+
+/// Writes the line of the session, if there is one, and its replies.
+fn write_replies<W: Sink>(
+    buffer: &mut Buffer,
+    out: &mut W,
+    session: Option<u32>,
+    answers: &[Answer],
+) -> Result<(), Failed>
+    ensures { Writes W.Sink result (out.old, buffer.old) (out.new, buffer.new)
+        (session_line session ++ flat_map answer_line answers.now) }
+{
+    write_session(buffer, out, session)?;
+    write_answers(buffer, out, answers)
+}
+
+/// Writes what a run says, and flushes it. After a failure the sink has a beginning of it. No memory is taken.
+fn write_run<W: Sink>(
+    mut buffer: Buffer,
+    out: &mut W,
+    session: Option<u32>,
+    answers: &[Answer],
+    journal: &Journal,
+) -> Result<(), Failed>
+    requires { buffer ≡ [] }
+    ensures { Delivers W.Sink result out.old out.new (run_lines session answers.now journal.now.lines) }
+{
+    write_replies(&mut buffer, out, session, answers)?;
+    write_history(&mut buffer, out, journal)?;
+    buffer.finish(out)
+}
+
+/// Writes the text of a run and gives the status that comes of it.
+pub(crate) fn write_text<W: Sink>(out: &mut W, ran: Ran) -> u8
+    requires { ran.buffer ≡ [] }
+    ensures status { (result ≡ DONE) ⊎ (result ≡ WRITE_FAULT) }
+    ensures done { result ≡ DONE → GotAll W.Sink out.old out.new (run_lines ran.session ran.run.answers.items ran.run.journal.lines) }
+    ensures cut_short { result ≡ WRITE_FAULT → GotPart W.Sink out.old out.new (run_lines ran.session ran.run.answers.items ran.run.journal.lines) }
+{
+    let Ran {
+        session,
+        run: SessionRun { answers, journal },
+        buffer,
+    } = ran;
+    match write_run(buffer, out, session, &answers, &journal) {
+        Ok(()) => DONE,
+        Err(_) => WRITE_FAULT,
+    }
+}
