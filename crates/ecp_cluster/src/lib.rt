@@ -7,7 +7,8 @@
 //! A thread takes the lock of a node before that of the coordinator, and never two of nodes. A call that takes a lock may
 //! wait for it.
 //!
-//! `opening.rt` makes a service, `calls/` has its calls, `turning.rt` the turns of the helpers, and `closing.rt` its end.
+//! `opening.rt` makes a service, `calls/` has its calls, `raising.rt` has passes learn of each other, `turning.rt` has the
+//! turns of the helpers, and `closing.rt` its end.
 //!
 //! It stands on `ecp_coord` for events, on `ecp_node` and `ecp_helper` for what is done at a node, on `ecp_link` for the
 //! links between them, and on `ecp_requestor` for fetches, for which it is the crew (`crew.rt`). The layer above may rely on this: each call has its one `End` entry with the act that it answers,
@@ -21,6 +22,7 @@ mod closed;
 mod closing;
 mod crew;
 mod opening;
+mod raising;
 mod room;
 mod service;
 mod turning;

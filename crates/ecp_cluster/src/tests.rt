@@ -1,4 +1,12 @@
 mod closed_together;
+mod held;
 mod lost;
+mod lost_in_flight;
+mod overtaken;
+mod puts;
+mod raised;
+mod reads_overlap;
+mod restarted;
 mod sizes;
+mod tally;
 mod unread;

@@ -72,7 +72,7 @@ impl<N: Names, S: Store + Drop, G: Gate> Service<N, S, G> {
     }
 
     // The plan of a read, under the coordinator's lock.
-    fn plan_read<R: Wait>(
+    pub(crate) fn plan_read<R: Wait>(
         &self,
         rt: &R,
         pass: &mut Pass<N>,
