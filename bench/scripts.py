@@ -2,7 +2,8 @@
 """Writes an input for `ecpipe run`: 10,000 calls, 16 MiB of puts, 64 MiB of reads, or some calls at random, of one
 session or of several, or 512 reads of one block, live or lost.
 
-Usage: scripts.py calls | puts | reads | random SEED | sessions SEED | block K live|lost SLICE WINDOW"""
+Usage: scripts.py calls | puts | reads | random SEED | sessions SEED | served SEED | block K live|lost SLICE WINDOW
+       | at-once K SESSIONS WORKERS"""
 import random
 import sys
 
@@ -38,6 +39,15 @@ def block(k, state, slice_size, window):
     yield from ("read f 0\n" for _ in range(512))
 
 
+def at_once(k, count, workers):
+    """512 reads of a block of 64 KiB that is lost, by so many sessions at the same time, while so many workers turn the helpers."""
+    yield head(k, k + 2, k + 2, 65536, f"workers = {workers}\n")
+    yield f"put f hex {random.Random(k).randbytes(k * 65536).hex()}\nlose 0\nbarrier\n"
+    for number in range(count):
+        yield f"session {number}\n"
+        yield from ("read f 0\n" for _ in range(512 // count))
+
+
 def some(seed):
     draw = random.Random(seed)
     k = draw.randint(1, 6)
@@ -62,23 +72,27 @@ def settings(draw, block):
     yield f"workers = {draw.randint(0, 8)}\n"
 
 
-def content(draw, size):
-    if draw.random() < 0.5:
+def content(draw, size, contents):
+    if "gen" in contents and draw.random() < 0.5:
         return f"gen {draw.getrandbits(64)} {size}"
     return f"hex {draw.randbytes(size).hex() or '-'}"
 
 
 KINDS = {"put": 6, "read": 4, "sum": 3, "cat": 4, "lose": 3, "join": 3, "rebuild": 4, "stat": 2}
 
+# Those forms that the program serves, and where its puts get their bytes.
+SERVED = {"put": 6, "read": 8, "lose": 2}
+SERVED_CONTENT = ("hex",)
 
-def call(draw, size, nodes):
-    """A call of any form, on few names and nodes; size is that of a stripe's data."""
-    kind = draw.choices(list(KINDS), list(KINDS.values()))[0]
+
+def call(draw, size, nodes, kinds, contents):
+    """A call of one of these kinds, on few names and nodes; size is that of a stripe's data."""
+    kind = draw.choices(list(kinds), list(kinds.values()))[0]
     name, node, other = f"f{draw.randint(0, 6)}", draw.choice(nodes), draw.choice(nodes)
     match kind:
         case "put":
             length = draw.choice([0, 1, size, 3 * size + 1, draw.randint(0, 6 * size)])
-            return f"put {name} {content(draw, length)}\n"
+            return f"put {name} {content(draw, length, contents)}\n"
         case "read" | "sum":
             return f"{kind} {name} {draw.randint(0, 8)}\n"
         case "rebuild":
@@ -89,7 +103,7 @@ def call(draw, size, nodes):
             return f"{kind} {name}\n"
 
 
-def sessions(seed):
+def sessions(seed, kinds=KINDS, contents=("gen", "hex")):
     draw = random.Random(seed)
     k = draw.randint(1, 6)
     n = draw.randint(k + 1, 9)
@@ -103,15 +117,18 @@ def sessions(seed):
             yield "barrier\n"
         for number in numbers:
             yield f"session {number}\n"
-            yield from (call(draw, k * block, named) for _ in range(draw.randint(0 if phase > 0 else 1, 6)))
+            yield from (call(draw, k * block, named, kinds, contents) for _ in range(draw.randint(0 if phase > 0 else 1, 6)))
 
 
 def main(words):
     if words[0] == "block":
         sys.stdout.writelines(block(int(words[1]), words[2], *map(int, words[3:])))
         return
+    if words[0] == "at-once":
+        sys.stdout.writelines(at_once(*map(int, words[1:])))
+        return
     kinds = {"calls": calls, "puts": puts, "reads": reads}
-    seeded = {"random": some, "sessions": sessions}
+    seeded = {"random": some, "sessions": sessions, "served": lambda seed: sessions(seed, SERVED, SERVED_CONTENT)}
     lines = seeded[words[0]](int(words[1])) if words[0] in seeded else kinds[words[0]]()
     sys.stdout.writelines(lines)
 

@@ -1,9 +1,9 @@
+pub mod Appending
 pub mod Dividing
 pub mod Gathering
 pub mod Joined
 pub mod Keyed
 pub mod OneForm
-pub mod Owning
 pub mod Scripts
 pub mod Spelled
 pub mod Spending

@@ -6,7 +6,6 @@ pub mod Cuts
 pub mod Forms
 pub mod Limits
 pub mod Lines
-pub mod Owner
 pub mod Refusals
 pub mod Script
 pub mod Sessions

@@ -3,6 +3,9 @@ use ecp_shape::limits::MAX_INPUT;
 use std::alloc::{AllocError, Global};
 use std::test::Fail;
 
+// The session, the phase and the node of a loss.
+type Loss = (u32, u32, u32);
+
 // The settings that have no default, as a head spells them.
 fn sizes(alloc: Global, k: &str, n: &str, nodes: &str, block: &str) -> Result<String, AllocError> {
     format!(in alloc; "k = {k}\nn = {n}\nnodes = {nodes}\nblock = {block}\n")
@@ -194,7 +197,11 @@ fn refuses_a_line_without_a_form(rt: HostRuntime) -> Result<(), Fail> {
         "session 8",
         "session 08",
         "session",
-        "barrier",
+        "barrier ",
+        " barrier",
+        "barrier 1",
+        "session barrier",
+        "Barrier",
         "join 0",
         "rebuild 0 1",
         "sum a 0",
@@ -213,10 +220,6 @@ fn refuses_a_line_without_a_form(rt: HostRuntime) -> Result<(), Fail> {
         script_refusal(alloc, "# one\n\nfetch\n")?,
         Some(Refusal::Line(8))
     );
-    assert_eq!(rt;
-        script_refusal(alloc, "session 1\nread a 0\nsession 0\nread a 0\n")?,
-        Some(Refusal::Line(9))
-    );
     Ok(())
 }
 
@@ -230,6 +233,7 @@ fn keeps_each_limit_and_refuses_one_past_it(rt: HostRuntime) -> Result<(), Fail>
     let put = repeated(alloc, put.as_str(), "\n", 1)?;
     for (head, line, most) in [
         (small.as_str(), "lose 0\n", 10_000),
+        (small.as_str(), "barrier\n", 10_000),
         (large.as_str(), "read a 0\n", 1_024),
         (large.as_str(), "put a hex 00\n", 1_024),
         (small.as_str(), put.as_str(), 16),
@@ -329,6 +333,48 @@ fn reads_the_calls_of_a_script(rt: HostRuntime) -> Result<(), Fail> {
         )
     );
     assert_eq!(rt; fourth.phase, 0);
+    Ok(())
+}
+
+// The calls of a script that are losses, by session, each with its session and phase.
+fn losses(alloc: Global, input: &Input) -> Result<Vec<Loss>, Fail> {
+    let mut losses = Vec::new(alloc);
+    for session in &input.sessions {
+        for planned in &session.calls {
+            let Call::Lose { node } = planned.call else {
+                return Err(Fail::from("a loss"));
+            };
+            losses.push((session.number, planned.phase, node))?;
+        }
+    }
+    Ok(losses)
+}
+
+#[test]
+fn reads_sessions_and_phases(rt: HostRuntime) -> Result<(), Fail> {
+    let alloc = rt.alloc();
+    for (script, phases, want) in [
+        ("barrier\nbarrier\n# one\nbarrier", 4, [].as_slice()),
+        (
+            "lose 0\nsession 5\nlose 1\nsession 2\nlose 2\nsession 5\nlose 3\n",
+            1,
+            [(0, 0, 0), (2, 0, 2), (5, 0, 1), (5, 0, 3)].as_slice(),
+        ),
+        (
+            "session 5\nlose 0\nbarrier\nlose 1\nsession 2\nlose 2\nlose 3\nsession 5\nlose 4\n",
+            2,
+            [(2, 1, 2), (2, 1, 3), (5, 0, 0), (5, 1, 1), (5, 1, 4)].as_slice(),
+        ),
+        (
+            "barrier\nsession 1\nbarrier\nlose 0\nbarrier\nsession 0\nlose 1\nbarrier\n",
+            5,
+            [(0, 3, 1), (1, 2, 0)].as_slice(),
+        ),
+    ] {
+        let input = accepted(alloc, input(alloc, script)?.as_str())?;
+        assert_eq!(rt; input.phases, phases, "at {script}");
+        assert_eq!(rt; losses(alloc, &input)?.as_slice(), want, "at {script}");
+    }
     Ok(())
 }
 

@@ -1,83 +1,72 @@
--- An accepted input has no call, or the calls of one session, which are served.
-use Rattle.std.proofs.Common.{◌≡◌, ℕ, zero, suc, ◌+◌, ◌<◌, ◌≤◌, ◌⊎◌, Bool, true, false, not, cond, List, [], ◌∷◌, length, map, refl, sym, ◌∙◌, ap, subst, inl, inr, arith, le_refl, le_trans}
-use Rattle.std.specs.Prelude.{filter, sum_by, ◌==◌}
+-- The sessions of an accepted input: their calls are served, and they stand in rising order.
+use Rattle.std.proofs.Common.{◌≡◌, ℕ, zero, suc, ◌+◌, ◌<◌, ◌≤◌, Bool, true, false, cond, List, [], ◌∷◌, Some, map, refl, sym, ◌∙◌, ap, subst, arith, le_refl}
+use Rattle.std.specs.Prelude.{filter, count_by, slice_get, ◌==◌}
 use Rattle.std.specs.List.{AllByRecursion, range_with_len}
-use Rattle.std.proofs.lemmas.Bool.{cases_eq, eq-eqb, ne_eqb}
-use Rattle.std.proofs.lemmas.List.{length-map}
 use Rattle.std.proofs.lemmas.List.Elements.{All-from_recursion}
-use Rattle.std.proofs.lemmas.List.Sums.{sum_by-cons}
+use Rattle.std.proofs.lemmas.Option.{none-some, same_Some}
 use Rattle.std.proofs.lemmas.Str.Ascii.{IsAscii-from_all}
-use Rattle.ecp_code.specs.Stripes.{stripe_count}
+use Rattle.ecp_shape.specs.declared.limits.TheConstants.{MAX_PUT_BYTES, MAX_SESSIONS}
 use Rattle.ecp_command.specs.Input.Accepted.{Content, IsAccepted}
-use Rattle.ecp_command.specs.Input.Calls.{SessionCalls, calls_from, calls_of, session_of, has_calls, sessions_of, AreOneSession}
+use Rattle.ecp_command.specs.Input.Calls.{SessionCalls, planned, calls_from, calls_of, session_of, has_calls, is_barrier, phases_of, sessions_of}
 use Rattle.ecp_command.specs.Input.Forms.{is_name_byte, IsName, SpellsCall, SpellEach}
 use Rattle.ecp_command.specs.Input.Limits as limits
-use Rattle.ecp_command.specs.Input.Limits.{KeepLimits}
 use Rattle.ecp_command.specs.declared.input.call.Call as the_call
 use Rattle.ecp_command.specs.declared.input.call.Call.TheVariants.{Put, Read, Sum, Cat, Lose, Join, Rebuild, Stat}
 use Rattle.ecp_command.specs.declared.input.form.Form.{Form}
-use Rattle.ecp_command.specs.declared.input.form.Form.TheVariants.{Session, Call}
-use Rattle.ecp_command.specs.declared.input.head.Head.{Head}
+use Rattle.ecp_command.specs.declared.input.form.Form.TheVariants.{Session, Barrier, Call}
 use Rattle.ecp_command.specs.declared.input.planned.Planned.{Planned}
-use Rattle.ecp_command.specs.Input.Settings.{shape_of}
-use Rattle.ecp_service.specs.Asked.{put_stripes}
-use Rattle.ecp_service.specs.Servable.{IsShortName, IsServable, EachServable, IsServableSession}
+use Rattle.ecp_command.proofs.Inputs.Appending.{barriers_more}
+use Rattle.ecp_service.specs.Servable.{IsShortName, IsServable, EachServable, AreRising, IsServableSession, AreServable}
 
--- of the numbers from a on, the one session that has calls is kept
-none_of : (f : ℕ → SessionCalls) (a m : ℕ) → ((n : ℕ) → a ≤ n → has_calls (f n) ≡ false) → filter has_calls (map f (range_with_len a m)) ≡ []
-none_of f a zero off = refl
-none_of f a (suc m) off =
-    let this : has_calls (f a) ≡ false = off a (le_refl a) in
-    ap (λ (b : Bool). cond b (f a ∷ filter has_calls (map f (range_with_len (a + 1) m))) (filter has_calls (map f (range_with_len (a + 1) m)))) this
-    ∙ none_of f (a + 1) m (λ n from. off n (omega (arith, from)))
+-- ---- the sessions that are kept
 
-one_of : (f : ℕ → SessionCalls) (k a m : ℕ) → a ≤ k → k < a + m → ((n : ℕ) → (n ≡ k → ⊥) → has_calls (f n) ≡ false) → has_calls (f k) ≡ true
-    → filter has_calls (map f (range_with_len a m)) ≡ f k ∷ []
-one_of f k a zero from below off on = absurd (omega (arith, from, below))
-one_of f k a (suc m) from below off on =
-    let rest : List SessionCalls = filter has_calls (map f (range_with_len (a + 1) m)) in
-    elim (cases_eq a k) [
-      | inl is ↦
-          ap (λ (b : Bool). cond b (f a ∷ rest) rest) (ap (λ (n : ℕ). has_calls (f n)) is ∙ on)
-          ∙ ap (λ (ss : List SessionCalls). f a ∷ ss) (none_of f (a + 1) m (λ n above. off n (λ same. omega (arith, is, above, same))))
-          ∙ ap (λ (n : ℕ). f n ∷ []) is
-      | inr differs ↦
-          let further : a + 1 ≤ k = omega (arith, from, differs) in
-          ap (λ (b : Bool). cond b (f a ∷ rest) rest) (off a differs) ∙ one_of f k (a + 1) m further (omega (arith, below)) off on
-    ]
+-- of the numbers from a on, those whose sessions have calls
+abbrev kept_from : (ℕ → SessionCalls) → ℕ → ℕ → List SessionCalls
+kept_from f a m = filter has_calls (map f (range_with_len a m))
 
--- calls of one session are all of this session, and none of another
-all_of : (k : ℕ) (cs : List (ℕ × Planned)) → AllByRecursion (λ o. o.0 ≡ k) cs → filter (λ o. o.0 == k) cs ≡ cs
-all_of k [] each = refl
-all_of k (c ∷ cs) each =
-    ap (λ (b : Bool). cond b (c ∷ filter (λ o. o.0 == k) cs) (filter (λ o. o.0 == k) cs)) (eq-eqb c.0 k each.0)
-    ∙ ap (λ (xs : List (ℕ × Planned)). c ∷ xs) (all_of k cs each.1)
+-- a session that is kept is that of one of the numbers
+pub record IsKept (f : ℕ → SessionCalls) (a m : ℕ) (s : SessionCalls) : Type 0 where
+  pub number : ℕ
+  pub from : a ≤ number
+  pub below : number < a + m
+  pub is : s ≡ f number
 
-none_other : (k n : ℕ) (cs : List (ℕ × Planned)) → AllByRecursion (λ o. o.0 ≡ k) cs → (n ≡ k → ⊥) → filter (λ o. o.0 == n) cs ≡ []
-none_other k n [] each differs = refl
-none_other k n (c ∷ cs) each differs =
-    ap (λ (b : Bool). cond b (c ∷ filter (λ o. o.0 == n) cs) (filter (λ o. o.0 == n) cs)) (ne_eqb c.0 n (λ is. differs (sym is ∙ each.0)))
-    ∙ none_other k n cs each.1 differs
+kept_later : (f : ℕ → SessionCalls) (a m : ℕ) (s : SessionCalls) → IsKept f (a + 1) m s → IsKept f a (suc m) s
+kept_later f a m s k = record { number = k.number; from = omega (arith, k.from); below = omega (arith, k.below); is = k.is }
 
--- whether there are calls among these
-abbrev is_some_call : List (ℕ × Planned) → Bool
-is_some_call cs = not (length (map (λ (c : ℕ × Planned). c.1) cs) == 0)
+is_kept : (f : ℕ → SessionCalls) (a m i : ℕ) (s : SessionCalls) → slice_get (kept_from f a m) i ≡ Some s → IsKept f a m s
+is_kept f a zero i s here = absurd (none-some s here)
+is_kept f a (suc m) i s here = either (has_calls (f a)) i here (λ k there. kept_later f a m s (is_kept f (a + 1) m k s there)) where
+  either : (b : Bool) (k : ℕ) → slice_get (cond b (f a ∷ kept_from f (a + 1) m) (kept_from f (a + 1) m)) k ≡ Some s → ((l : ℕ) → slice_get (kept_from f (a + 1) m) l ≡ Some s → IsKept f a (suc m) s)
+      → IsKept f a (suc m) s
+  either true zero there later = record { number = a; from = le_refl a; below = omega arith; is = sym (same_Some (f a) s there) }
+  either true (suc k) there later = later k there
+  either false k there later = later k there
 
-sessions_one : (c : ℕ × Planned) (cs : List (ℕ × Planned)) → AllByRecursion (λ o. o.0 ≡ c.0) cs → c.0 < 8
-    → filter has_calls (map (session_of (c ∷ cs)) (range_with_len 0 8)) ≡ record { number = c.0; calls = map (λ o. o.1) (c ∷ cs) } ∷ []
-sessions_one c cs same below =
-    let each : AllByRecursion (λ o. o.0 ≡ c.0) (c ∷ cs) = (refl, same) in
-    let kept : filter (λ o. o.0 == c.0) (c ∷ cs) ≡ c ∷ cs = all_of c.0 (c ∷ cs) each in
-    one_of (session_of (c ∷ cs)) c.0 0 8 (omega arith) (omega (arith, below))
-    (λ n differs. ap (λ (xs : List (ℕ × Planned)). is_some_call xs) (none_other c.0 n (c ∷ cs) each differs))
-    (ap (λ (xs : List (ℕ × Planned)). is_some_call xs) kept ∙ some)
-    ∙ ap (λ (xs : List (ℕ × Planned)). with_calls xs ∷ []) kept
-  where
-    with_calls : List (ℕ × Planned) → SessionCalls
-    with_calls xs = record { number = c.0; calls = map (λ o. o.1) xs }
+-- sessions with these numbers are kept in their order
+kept_apart : (f : ℕ → SessionCalls) → ((n : ℕ) → (f n).number ≡ n) → (a m i j : ℕ) (s t : SessionCalls) → i < j → slice_get (kept_from f a m) i ≡ Some s → slice_get (kept_from f a m) j ≡ Some t → s.number < t.number
+kept_apart f numbers a zero i j s t lt first second = absurd (none-some s first)
+kept_apart f numbers a (suc m) i j s t lt first second = either (has_calls (f a)) i j lt first second (λ k l. kept_apart f numbers (a + 1) m k l s t) where
+  later : List SessionCalls
+  later = kept_from f (a + 1) m
 
-    some : is_some_call (c ∷ cs) ≡ true
-    some = ap not (ne_eqb (suc (length (map (λ (o : ℕ × Planned). o.1) cs))) 0 (λ is. omega (arith, is)))
+  either : (b : Bool) (k l : ℕ) → k < l → slice_get (cond b (f a ∷ later) later) k ≡ Some s → slice_get (cond b (f a ∷ later) later) l ≡ Some t
+      → ((k l : ℕ) → k < l → slice_get later k ≡ Some s → slice_get later l ≡ Some t → s.number < t.number) → s.number < t.number
+  either true zero zero less here there more = absurd (omega (arith, less))
+  either true zero (suc l) less here there more =
+      let behind = is_kept f (a + 1) m l t there in
+      let s_is : s.number ≡ a = ap (λ (x : SessionCalls). x.number) (sym (same_Some (f a) s here)) ∙ numbers a in
+      let t_is : t.number ≡ behind.number = ap (λ (x : SessionCalls). x.number) behind.is ∙ numbers behind.number in
+      omega (arith, s_is, t_is, behind.from)
+  either true (suc k) zero less here there more = absurd (omega (arith, less))
+  either true (suc k) (suc l) less here there more = more k l (omega (arith, less)) here there
+  either false k l less here there more = more k l less here there
+
+-- ---- the calls of one session
+
+-- the calls of the session of this number among these
+abbrev its : ℕ → List (ℕ × Planned) → List Planned
+its number cs = map (λ c. c.1) (filter (λ c. c.0 == number) cs)
 
 -- a name is short and ASCII
 name_byte_ascii : (b : ℕ) → is_name_byte b ≡ true → b < 128
@@ -91,7 +80,7 @@ short_name name is = record {
 }
 
 -- lines spell calls that are served
-call_servable : (line : List ℕ) (call : the_call.Call) → SpellsCall line call → limits.put_len (Call call) ≤ 4194304 → IsServable call
+call_servable : (line : List ℕ) (call : the_call.Call) → SpellsCall line call → limits.put_len (Call call) ≤ MAX_PUT_BYTES → IsServable call
 call_servable line (Put name bytes) h small = (short_name name h.0, small)
 call_servable line (Read name index) h small = short_name name h.0
 call_servable line (Lose node) h small = tt
@@ -101,84 +90,72 @@ call_servable line (Join node) h small = h
 call_servable line (Rebuild from to) h small = h
 call_servable line (Stat name) h small = h
 
-each_servable : (session : ℕ) (script : List (ℕ × List ℕ)) (forms : List Form) → SpellEach script forms → AllByRecursion (λ f. limits.put_len f ≤ 4194304) forms → EachServable (map (λ o. o.1) (calls_from session forms))
-each_servable session [] [] h small = tt
-each_servable session [] (f ∷ fs) h small = absurd h
-each_servable session (line ∷ rest) [] h small = absurd h
-each_servable session (line ∷ rest) (Session number ∷ fs) h small = each_servable number rest fs h.1 small.1
-each_servable session (line ∷ rest) (Call call ∷ fs) h small = (call_servable line.1 call h.0 small.0, each_servable session rest fs h.1 small.1)
+each_servable : (number session phase : ℕ) (script : List (ℕ × List ℕ)) (forms : List Form) → SpellEach script forms → AllByRecursion (λ f. limits.put_len f ≤ MAX_PUT_BYTES) forms
+    → EachServable (its number (calls_from session phase forms))
+each_servable number session phase [] [] h small = tt
+each_servable number session phase [] (f ∷ fs) h small = absurd h
+each_servable number session phase (line ∷ rest) [] h small = absurd h
+each_servable number session phase (line ∷ rest) (Session n ∷ fs) h small = each_servable number n phase rest fs h.1 small.1
+each_servable number session phase (line ∷ rest) (Barrier ∷ fs) h small = each_servable number session (phase + 1) rest fs h.1 small.1
+each_servable number session phase (line ∷ rest) (Call call ∷ fs) h small = either (session == number) (each_servable number session phase rest fs h.1 small.1) where
+  later : List (ℕ × Planned)
+  later = filter (λ c. c.0 == number) (calls_from session phase fs)
 
-numbers_below : (session : ℕ) (script : List (ℕ × List ℕ)) (forms : List Form) → SpellEach script forms → session < 8 → AllByRecursion (λ o. o.0 < 8) (calls_from session forms)
-numbers_below session [] [] h below = tt
-numbers_below session [] (f ∷ fs) h below = absurd h
-numbers_below session (line ∷ rest) [] h below = absurd h
-numbers_below session (line ∷ rest) (Session number ∷ fs) h below = numbers_below number rest fs h.1 h.0.0
-numbers_below session (line ∷ rest) (Call call ∷ fs) h below = (below, numbers_below session rest fs h.1 below)
+  either : (b : Bool) → EachServable (map (λ c. c.1) later) → EachServable (map (λ c. c.1) (cond b ((session, planned phase call) ∷ later) later))
+  either true each = (call_servable line.1 call h.0 small.0, each)
+  either false each = each
 
-phases_none : (session : ℕ) (forms : List Form) → AllByRecursion (λ p. p.phase ≡ 0) (map (λ o. o.1) (calls_from session forms))
-phases_none session [] = tt
-phases_none session (Session number ∷ fs) = phases_none number fs
-phases_none session (Call call ∷ fs) = (refl, phases_none session fs)
+-- calls that rise from a later phase on
+rising_later : (a b : ℕ) (calls : List Planned) → a ≤ b → AreRising b calls → AreRising a calls
+rising_later a b [] le h = tt
+rising_later a b (p ∷ calls) le h = (omega (arith, le, h.0), h.1)
 
--- there are no more calls than lines, and they put no more stripes
-calls_few : (session : ℕ) (forms : List Form) → length (calls_from session forms) ≤ length forms
-calls_few session [] = le_refl 0
-calls_few session (Session number ∷ fs) =
-    let rest : length (calls_from number fs) ≤ length fs = calls_few number fs in
-    omega (arith, rest)
-calls_few session (Call call ∷ fs) =
-    let rest : length (calls_from session fs) ≤ length fs = calls_few session fs in
-    omega (arith, rest)
+calls_rise : (number session phase : ℕ) (forms : List Form) → AreRising phase (its number (calls_from session phase forms))
+calls_rise number session phase [] = tt
+calls_rise number session phase (Session n ∷ fs) = calls_rise number n phase fs
+calls_rise number session phase (Barrier ∷ fs) = rising_later phase (phase + 1) (its number (calls_from session (phase + 1) fs)) (omega arith) (calls_rise number session (phase + 1) fs)
+calls_rise number session phase (Call call ∷ fs) = either (session == number) (calls_rise number session phase fs) where
+  later : List (ℕ × Planned)
+  later = filter (λ c. c.0 == number) (calls_from session phase fs)
 
-stripes_of_call : (head : Head) (call : the_call.Call) → put_stripes (shape_of head) call ≤ limits.put_stripes head (Call call)
-stripes_of_call head (Put name bytes) = le_refl (stripe_count head.k head.block (length bytes))
-stripes_of_call head _ = omega arith
+  either : (b : Bool) → AreRising phase (map (λ c. c.1) later) → AreRising phase (map (λ c. c.1) (cond b ((session, planned phase call) ∷ later) later))
+  either true rise = (le_refl phase, rise)
+  either false rise = rise
 
-stripes_few : (head : Head) (session : ℕ) (forms : List Form)
-    → sum_by (λ p. put_stripes (shape_of head) p.call) (map (λ o. o.1) (calls_from session forms)) ≤ sum_by (limits.put_stripes head) forms
-stripes_few head session [] = le_refl 0
-stripes_few head session (Session number ∷ fs) =
-    let right : sum_by (limits.put_stripes head) (Session number ∷ fs) ≡ limits.put_stripes head (Session number) + sum_by (limits.put_stripes head) fs = sum_by-cons (limits.put_stripes head) (Session number) fs in
-    above (sum_by (λ p. put_stripes (shape_of head) p.call) (map (λ o. o.1) (calls_from number fs))) (sum_by (limits.put_stripes head) fs) (limits.put_stripes head (Session number)) (sum_by (limits.put_stripes head) (Session number ∷ fs)) right (stripes_few head number fs)
-  where
-    above : (a b c d : ℕ) → d ≡ c + b → a ≤ b → a ≤ d
-    above a b c d p q = omega (arith, p, q)
-stripes_few head session (Call call ∷ fs) =
-    let p : Planned = record { phase = 0; call = call } in
-    let rest : List Planned = map (λ o. o.1) (calls_from session fs) in
-    let left : sum_by (λ q. put_stripes (shape_of head) q.call) (p ∷ rest) ≡ put_stripes (shape_of head) call + sum_by (λ q. put_stripes (shape_of head) q.call) rest = sum_by-cons (λ (q : Planned). put_stripes (shape_of head) q.call) p rest in
-    let right : sum_by (limits.put_stripes head) (Call call ∷ fs) ≡ limits.put_stripes head (Call call) + sum_by (limits.put_stripes head) fs = sum_by-cons (limits.put_stripes head) (Call call) fs in
-    above (put_stripes (shape_of head) call) (limits.put_stripes head (Call call)) (sum_by (λ q. put_stripes (shape_of head) q.call) rest) (sum_by (limits.put_stripes head) fs)
-    (sum_by (λ q. put_stripes (shape_of head) q.call) (p ∷ rest)) (sum_by (limits.put_stripes head) (Call call ∷ fs)) left right (stripes_of_call head call) (stripes_few head session fs)
-  where
-    above : (a b c d e f : ℕ) → e ≡ a + c → f ≡ b + d → a ≤ b → c ≤ d → e ≤ f
-    above a b c d e f p q r s = omega (arith, p, q, r, s)
+-- each call is in a phase that there is
+calls_within : (number session phase phases : ℕ) (forms : List Form) → phase + count_by is_barrier forms < phases → AllByRecursion (λ p. p.phase < phases) (its number (calls_from session phase forms))
+calls_within number session phase phases [] below = tt
+calls_within number session phase phases (Session n ∷ fs) below = calls_within number n phase phases fs below
+calls_within number session phase phases (Barrier ∷ fs) below = calls_within number session (phase + 1) phases fs (omega (arith, below, barriers_more fs))
+calls_within number session phase phases (Call call ∷ fs) below = either (session == number) (calls_within number session phase phases fs below) where
+  later : List (ℕ × Planned)
+  later = filter (λ c. c.0 == number) (calls_from session phase fs)
 
--- the lines give no session, or one of calls that are served
-pub sessions_are : (head : Head) (script : List (ℕ × List ℕ)) (forms : List Form) → SpellEach script forms → KeepLimits head forms
-    → (sessions_of forms ≡ []) ⊎ ((s : SessionCalls) × (sessions_of forms ≡ s ∷ []) × IsServableSession (shape_of head) s)
-sessions_are head script forms spelled within = either (calls_of forms) refl within.one_session where
-  either : (cs : List (ℕ × Planned)) → calls_from 0 forms ≡ cs → AreOneSession cs → (sessions_of forms ≡ []) ⊎ ((s : SessionCalls) × (sessions_of forms ≡ s ∷ []) × IsServableSession (shape_of head) s)
-  either [] are one = inl (ap (λ (cs : List (ℕ × Planned)). filter has_calls (map (session_of cs) (range_with_len 0 8))) are)
-  either (c ∷ cs) are one =
-      let below : AllByRecursion (λ o. o.0 < 8) (c ∷ cs) = subst (λ (xs : List (ℕ × Planned)). AllByRecursion (λ o. o.0 < 8) xs) are (numbers_below 0 script forms spelled (omega arith)) in
-      let s : SessionCalls = record { number = c.0; calls = map (λ o. o.1) (c ∷ cs) } in
-      let short : length (map (λ (o : ℕ × Planned). o.1) (c ∷ cs)) ≤ length forms =
-      subst (λ (xs : List (ℕ × Planned)). length (map (λ (o : ℕ × Planned). o.1) xs) ≤ length forms) are
-      (subst (λ (n : ℕ). n ≤ length forms) (sym (length-map (calls_from 0 forms) (λ (o : ℕ × Planned). o.1))) (calls_few 0 forms)) in
-      let served : IsServableSession (shape_of head) s = record {
-        session = below.0;
-        calls = subst (λ (xs : List (ℕ × Planned)). EachServable (map (λ o. o.1) xs)) are (each_servable 0 script forms spelled within.each_bytes);
-        phases = All-from_recursion (λ (p : Planned). p.phase ≡ 0) s.calls (subst (λ (xs : List (ℕ × Planned)). AllByRecursion (λ p. p.phase ≡ 0) (map (λ o. o.1) xs)) are (phases_none 0 forms));
-        few = le_trans short within.lines;
-        stripes = le_trans (subst (λ (xs : List (ℕ × Planned)). sum_by (λ p. put_stripes (shape_of head) p.call) (map (λ o. o.1) xs) ≤ sum_by (limits.put_stripes head) forms) are (stripes_few head 0 forms)) within.stripes;
-      } in
-      inr (s, ap (λ (xs : List (ℕ × Planned)). filter has_calls (map (session_of xs) (range_with_len 0 8))) are ∙ sessions_one c cs one below.0, served)
+  this : phase < phases
+  this = omega (arith, below)
 
--- an accepted input has no session, or one
-pub accepted_one : (input : List ℕ) (content : Content) → IsAccepted input content → (content.sessions ≡ []) ⊎ ((s : SessionCalls) × (content.sessions ≡ s ∷ []) × IsServableSession (shape_of content.head) s)
-accepted_one input content accepted =
-    elim (sessions_are content.head accepted.script accepted.forms accepted.has_forms.spelled accepted.has_forms.within) [
-      | inl none ↦ inl (accepted.sessions ∙ none)
-      | inr one ↦ inr (one.0, accepted.sessions ∙ one.1, one.2)
-    ]
+  either : (b : Bool) → AllByRecursion (λ p. p.phase < phases) (map (λ c. c.1) later) → AllByRecursion (λ p. p.phase < phases) (map (λ c. c.1) (cond b ((session, planned phase call) ∷ later) later))
+  either true within = (this, within)
+  either false within = within
+
+-- ---- the sessions of an input
+
+session_servable : (script : List (ℕ × List ℕ)) (forms : List Form) (s : SessionCalls) → SpellEach script forms → AllByRecursion (λ f. limits.put_len f ≤ MAX_PUT_BYTES) forms
+    → IsKept (session_of (calls_of forms)) 0 MAX_SESSIONS s → IsServableSession (phases_of forms) s
+session_servable script forms s spelled small kept = subst (IsServableSession (phases_of forms)) (sym kept.is) (record {
+  session = kept.below;
+  calls = each_servable kept.number 0 0 script forms spelled small;
+  rising = calls_rise kept.number 0 0 forms;
+  within = All-from_recursion (λ (p : Planned). p.phase < phases_of forms) (its kept.number (calls_of forms)) (calls_within kept.number 0 0 (phases_of forms) forms (omega arith));
+})
+
+-- the sessions of an accepted input can be served
+pub accepted_sessions : (input : List ℕ) (content : Content) → IsAccepted input content → AreServable content.phases content.sessions
+accepted_sessions input content a = record {
+  each = λ i s here.
+      subst (λ (n : ℕ). IsServableSession n s) (sym a.phases)
+      (session_servable a.script a.forms s a.has_forms.spelled a.has_forms.within.each_bytes (is_kept (session_of (calls_of a.forms)) 0 MAX_SESSIONS i s (at i s here)));
+  apart = λ i j s t lt first second. kept_apart (session_of (calls_of a.forms)) (λ n. refl) 0 MAX_SESSIONS i j s t lt (at i s first) (at j t second);
+} where
+  at : (i : ℕ) (s : SessionCalls) → slice_get content.sessions i ≡ Some s → slice_get (sessions_of a.forms) i ≡ Some s
+  at i s here = ap (λ (ss : List SessionCalls). slice_get ss i) (sym a.sessions) ∙ here

@@ -8,6 +8,9 @@ mod AnswerLines
 mod ReplyLines
 mod Sessions
 mod ServedLaws
+mod PhaseLaws
+mod RaiseLaws
+mod SeatLaws
 pub mod served
 mod FirstPasses
 pub mod ServedRuns

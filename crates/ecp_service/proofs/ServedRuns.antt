@@ -26,7 +26,7 @@ use Rattle.ecp_shape.specs.Range.{IsInRange}
 use Rattle.ecp_shape.specs.declared.limits.TheConstants.{MAX_SESSIONS}
 use Rattle.ecp_shape.specs.declared.shape.Shape.{Shape}
 use Rattle.ecp_service.proofs.served.Callers.{entry_below}
-use Rattle.ecp_service.proofs.served.Entries.{HasCaller, HasCallers}
+use Rattle.ecp_service.proofs.served.Entries.{HasCaller, HasCallers, HasFenced}
 use Rattle.ecp_service.proofs.served.Inputs.{IsCall, IsInput, accepted_input, no_calls}
 use Rattle.ecp_service.proofs.served.Kept.{contains_at}
 use Rattle.ecp_service.proofs.served.NoNodes.{nothing_spent}
@@ -47,7 +47,7 @@ pub record IsServedRun (content : Content) (answers : ℕ → List Answer) (line
 pub served_run : {S : Type 0} (bytes : List ℕ) (content : Content) (answers : ℕ → List Answer) (spares callers : ℕ) (failed : S → ℕ)
     (starts : List StoreStart) (lines : List Line) (passes : List PassState) (stores : List S)
     → IsAccepted bytes content → IsInRange (shape_of content.head)
-    → EachServed (shape_of content.head) true spares callers content answers passes
+    → EachServed (shape_of content.head) true spares callers content.sessions answers passes
     → (ended : Ended (shape_of content.head) true callers spares failed starts lines passes stores)
     → IsServedRun content answers lines (history_of ended.last.history)
 served_run bytes content answers spares callers failed starts lines passes stores accepted range each ended =
@@ -56,7 +56,8 @@ served_run bytes content answers spares callers failed starts lines passes store
     let history : List Entry = history_of s.history in
     let legal : IsLegal shape true history = ended.closed.kept.legal.legal in
     let input : IsInput content = accepted_input bytes content accepted in
-    let by : (c : ℕ) → c < callers → c < MAX_SESSIONS → HasCaller content answers history c = one_caller shape callers spares content answers lines passes s each ended.closed in
+    let fenced : (c : ℕ) → c < callers → c < MAX_SESSIONS → HasFenced content answers each.fences history c = one_caller shape callers spares content answers lines passes s each ended.closed in
+    let by : (c : ℕ) → c < callers → c < MAX_SESSIONS → HasCaller content answers history c = λ c below session. (fenced c below session).has in
     let all : HasCallers content answers history = λ i e here session. by e.line.caller (entry_below callers spares s.history ended.closed.kept.made i e here session) session in
     let sessions : (i : ℕ) (x : SessionCalls) → slice_get content.sessions i ≡ Some x → HasCaller content answers history x.number =
     λ i x here. by x.number (each.room x (contains_at content.sessions i x here)) (input.sessions i x here).session in
@@ -71,10 +72,11 @@ served_run bytes content answers spares callers failed starts lines passes store
         calls = names;
         complete = complete shape content answers history legal input all calls;
         ordered = ordered shape content answers history legal input all;
-        phases = phases_apart shape content answers history legal input all;
+        phases = phases_apart shape content answers history legal input all each.fences each.rising
+            (λ i e here session. fenced e.line.caller (entry_below callers spares s.history ended.closed.kept.made i e here session) session);
         drops = ended.closed.kept.counted;
         stripes = stripes_bounded shape content answers history legal input all sessions
-            (ended.numbers (each_ended shape callers spares content answers history passes input all by each));
+            (ended.numbers (each_ended shape callers spares content answers lines passes s input all by each ended.closed));
       };
       written = text_is shape content answers history legal input all lines ended.closed.printed sessions;
     }

@@ -1,5 +1,6 @@
 pub mod Answers
 pub mod Asked
+pub mod Callers
 pub mod Ends
 pub mod Over
 pub mod Paid

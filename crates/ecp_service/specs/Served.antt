@@ -1,9 +1,10 @@
 -- How the sessions of an input were served over nodes, and what is written of it.
-use Rattle.std.specs.Prelude.{◌≡◌, ℕ, ◌<◌, Bool, if◌then◌else◌, List, [], ◌∷◌, ◌++◌, length, flat_map, slice_index_or, codes, decimal, Contains, Option}
+use Rattle.std.specs.Prelude.{◌≡◌, ℕ, ◌+◌, ◌<◌, ◌≤◌, ◌==◌, Bool, if◌then◌else◌, List, [], ◌∷◌, ◌++◌, length, find, flat_map, slice_get, slice_index_or, codes, Contains}
+use Rattle.std.specs.Option.{option_map_or}
+use mathlib.Core.List.{IsPrefix}
 use Rattle.ecp_cluster.specs.declared.answer.Answer.{Answer}
 use Rattle.ecp_cluster.specs.Answered.{Answered}
 use Rattle.ecp_cluster.specs.Puts.{bytes_stored}
-use Rattle.ecp_command.specs.Input.Accepted.{Content}
 use Rattle.ecp_command.specs.Input.Calls.{SessionCalls}
 use Rattle.ecp_command.specs.declared.input.call.Call.{Call}
 use Rattle.ecp_command.specs.declared.input.call.Call.TheVariants.{Put}
@@ -13,8 +14,9 @@ use Rattle.ecp_entry.specs.declared.line.Line.{Line}
 use Rattle.ecp_entry.specs.declared.reply.Reply.TheVariants as reply
 use Rattle.ecp_history.specs.Parts.{is_data}
 use Rattle.ecp_sequencer.specs.Passes.{PassState, first_pass}
-use Rattle.ecp_service.specs.Asked.{calls_in, deed_of}
+use Rattle.ecp_service.specs.Asked.{deed_of}
 use Rattle.ecp_service.specs.RunLines.{count_line, lines_from, session_line}
+use Rattle.ecp_service.specs.declared.serving.replies.Replies.{Replies}
 use Rattle.ecp_shape.specs.declared.shape.Shape.{Shape}
 
 -- the bytes of the entry of a call that was answered so
@@ -22,18 +24,39 @@ abbrev pub entered_bytes : Call → Answer → List ℕ
 entered_bytes (Put name bytes) a = bytes_stored a.act bytes
 entered_bytes _ a = a.bytes
 
--- the calls, one after the other, were answered so: a pass went from v to w
-abbrev pub Served : Shape → Bool → PassState → List Planned → List Answer → PassState → Type 0
-Served shape told v [] [] w = w ≡ v
-Served shape told v (p ∷ calls) (a ∷ answers) w =
-    (u : PassState) × Answered shape told v (deed_of p.call) a.act (entered_bytes p.call a) u × Served shape told u calls answers w
-Served shape told v _ _ w = ⊥
+-- a pass is as it was, but that its front may have grown
+pub record Grown (v w : PassState) : Type 0 where
+  pub same : w ≡ record v { front = w.front }
+  pub longer : IsPrefix v.front w.front
 
--- the calls of each session were answered so by its caller, which a pass of its own tells
-pub record EachServed (shape : Shape) (told : Bool) (spares callers : ℕ) (content : Content) (answers : ℕ → List Answer) (passes : List PassState) : Type 0 where
+-- A call was answered so, after the front of the pass v had grown. The history was as long as fences says when the call's phase began and
+-- when it had ended: the call began no earlier, and ended no later
+pub record ServedOne (shape : Shape) (told : Bool) (fences : ℕ → ℕ) (v : PassState) (p : Planned) (a : Answer) (w : PassState) : Type 0 where
+  pub from : PassState
+  pub grown : Grown v from
+  pub begun : fences p.phase ≤ length from.front
+  pub answered : Answered shape told from (deed_of p.call) a.act (entered_bytes p.call a) w
+  pub ended : length w.front ≤ fences (p.phase + 1)
+
+-- the first of the calls, as many as there are answers, were answered so, one after another: a pass went from v to w
+abbrev pub Served : Shape → Bool → (ℕ → ℕ) → PassState → List Planned → List Answer → PassState → Type 0
+Served shape told fences v calls [] w = Grown v w
+Served shape told fences v [] (a ∷ answers) w = ⊥
+Served shape told fences v (p ∷ calls) (a ∷ answers) w = (u : PassState) × ServedOne shape told fences v p a u × Served shape told fences u calls answers w
+
+-- the calls of a session, of these sessions
+abbrev pub calls_by : List SessionCalls → ℕ → List Planned
+calls_by sessions number = option_map_or (λ s. s.calls) (find (λ s. s.number == number) sessions) []
+
+-- All calls of each session were answered so by its caller, which a pass of its own tells. How long the history was when each phase began,
+-- the callers mean alike
+pub record EachServed (shape : Shape) (told : Bool) (spares callers : ℕ) (sessions : List SessionCalls) (answers : ℕ → List Answer) (passes : List PassState) : Type 0 where
+  pub fences : ℕ → ℕ
+  pub rising : (i j : ℕ) → i ≤ j → fences i ≤ fences j
   pub each : length passes ≡ callers
-  pub room : (s : SessionCalls) → Contains content.sessions s → s.number < callers
-  pub served : (c : ℕ) (p : PassState) → c < callers → Served shape told (first_pass spares c) (calls_in content c) (answers c) (slice_index_or passes c p)
+  pub room : (s : SessionCalls) → Contains sessions s → s.number < callers
+  pub served : (c : ℕ) (p : PassState) → c < callers → Served shape told fences (first_pass spares c) (calls_by sessions c) (answers c) (slice_index_or passes c p)
+  pub whole : (c : ℕ) → c < callers → length (answers c) ≡ length (calls_by sessions c)
 
 -- the reply line to a call that was answered so
 abbrev pub answer_line : Answer → List ℕ
@@ -41,14 +64,22 @@ answer_line a = reply_line (if is_data a.act then reply.Data else reply.Ended a.
 
 -- a line for the session, and one for each of its answers
 abbrev pub session_replies : (ℕ → List Answer) → SessionCalls → List ℕ
-session_replies answers s = codes "session " ++ decimal s.number ++ codes "\n" ++ flat_map answer_line (answers s.number)
+session_replies answers s = session_line s.number ++ flat_map answer_line (answers s.number)
 
 -- the replies by session, and the journal
 abbrev pub served_text : List SessionCalls → (ℕ → List Answer) → List Line → List ℕ
 served_text sessions answers lines =
     flat_map (session_replies answers) sessions ++ (count_line lines ++ (lines_from 0 lines ++ codes "end\n"))
 
--- the same for one session, if there is one
-abbrev pub run_lines : Option ℕ → List Answer → List Line → List ℕ
-run_lines number answers lines =
-    (session_line number ++ flat_map answer_line answers) ++ (count_line lines ++ (lines_from 0 lines ++ codes "end\n"))
+-- the answers of a caller, by its number
+abbrev pub answers_by : List Replies → ℕ → List Answer
+answers_by replies number = option_map_or (λ r. r.answers.items) (slice_get replies number) []
+
+-- a line for a session, and one for each answer of its caller
+abbrev pub numbered_replies : List Replies → ℕ → List ℕ
+numbered_replies replies number = session_line number ++ flat_map answer_line (answers_by replies number)
+
+-- the replies of the sessions with these numbers, and the journal
+abbrev pub run_lines : List ℕ → List Replies → List Line → List ℕ
+run_lines numbers replies lines =
+    flat_map (numbered_replies replies) numbers ++ (count_line lines ++ (lines_from 0 lines ++ codes "end\n"))

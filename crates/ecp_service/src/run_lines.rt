@@ -23,18 +23,15 @@ fn write_number<W: Sink>(
     buffer.write(out, b"\n")
 }
 
-/// Writes the line of the session, if there is one.
+/// Writes the line of a session.
 pub(crate) fn write_session<W: Sink>(
     buffer: &mut Buffer,
     out: &mut W,
-    session: Option<u32>,
+    number: u32,
 ) -> Result<(), Failed>
-    ensures { Writes W.Sink result (out.old, buffer.old) (out.new, buffer.new) (session_line session) }
+    ensures { Writes W.Sink result (out.old, buffer.old) (out.new, buffer.new) (session_line number) }
 {
-    match session {
-        Some(number) => write_number(buffer, out, b"session ", number),
-        None => Ok(()),
-    }
+    write_number(buffer, out, b"session ", number)
 }
 
 /// Writes how many lines the journal has, those lines, and the last line of all.

@@ -1,6 +1,7 @@
 mod generated;
 mod scripts;
 mod served;
+mod sessions;
 
 use super::*;
 use ecp_helper::OpenGate;
@@ -10,6 +11,7 @@ use std::alloc::{AllocError, Global};
 use std::process::Abort;
 use std::sync::Wait;
 use std::test::Fail;
+use std::thread::Threads;
 
 const USAGE: &[u8] = b"usage: ecpipe run | run-dir PATH | mend K N ROW | check | soak SEED\n";
 
@@ -59,13 +61,18 @@ fn words_of(alloc: Global, line: &str) -> Result<Vec<String>, AllocError> {
     Ok(words)
 }
 
-fn leaves<R: Wait>(rt: &R, alloc: Global, run: &Run, bytes: Vec<u8>) -> Result<bool, Fail> {
+fn leaves<R: Threads + Wait + Sync>(
+    rt: &R,
+    alloc: Global,
+    run: &Run,
+    bytes: Vec<u8>,
+) -> Result<bool, Fail> {
     let (as_said, _) = ran(rt, alloc, run, bytes)?;
     Ok(as_said)
 }
 
 /// Whether the run leaves what it says, and its stores.
-fn ran<R: Wait>(
+fn ran<R: Threads + Wait + Sync>(
     rt: &R,
     alloc: Global,
     run: &Run,
@@ -103,7 +110,11 @@ fn stop(words: &'static str, status: u8, diag: &'static [u8]) -> Run {
     }
 }
 
-fn each_leaves<R: Abort + Wait>(rt: &R, alloc: Global, runs: &[Run]) -> Result<(), Fail> {
+fn each_leaves<R: Abort + Threads + Wait + Sync>(
+    rt: &R,
+    alloc: Global,
+    runs: &[Run],
+) -> Result<(), Fail> {
     for (at, run) in runs.iter().enumerate() {
         for piece in [1, 3, 65_536] {
             let run = Run { piece, ..*run };
@@ -164,7 +175,12 @@ fn says_why_it_stops(rt: HostRuntime) -> Result<(), Fail> {
 }
 
 /// Whether an input of so many bytes is too long for a run: one of comment bytes behind its head.
-fn is_too_long<R: Wait>(rt: &R, alloc: Global, run: &Run, len: usize) -> Result<bool, Fail> {
+fn is_too_long<R: Threads + Wait + Sync>(
+    rt: &R,
+    alloc: Global,
+    run: &Run,
+    len: usize,
+) -> Result<bool, Fail> {
     let mut bytes = run.bytes(alloc)?;
     bytes.resize(len, b'#')?;
     leaves(rt, alloc, run, bytes)

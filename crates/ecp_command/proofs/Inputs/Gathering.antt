@@ -1,21 +1,21 @@
 -- Gathering the calls of a script by their sessions.
-use Rattle.std.proofs.Common.{◌≡◌, ℕ, zero, suc, ◌+◌, ◌<◌, ◌==◌, Bool, true, false, cond, not, List, [], ◌∷◌, ◌++◌, length, vec_len, get_or, map, refl, sym, ap, subst, ◌∙◌, arith}
+use Rattle.std.proofs.Common.{◌≡◌, ℕ, zero, suc, ◌+◌, ◌^◌, ◌<◌, ◌≤◌, ◌==◌, Bool, true, false, cond, not, List, [], ◌∷◌, ◌++◌, length, vec_len, get_or, map, refl, sym, ap, subst, ◌∙◌, arith}
+use Rattle.std.specs.Prelude.{count_by}
 use Rattle.std.specs.List.{All, AllByRecursion, filter, range_with_len}
-use Rattle.std.proofs.lemmas.List.{map-append, map-id}
+use Rattle.std.proofs.lemmas.List.{length-map, map-append, map-id}
 use Rattle.std.proofs.lemmas.List.Elements.{All-from_recursion}
-use Rattle.ecp_shape.specs.declared.limits.TheConstants.{MAX_SESSIONS}
+use Rattle.ecp_shape.specs.declared.limits.TheConstants.{MAX_LINES, MAX_SESSIONS}
 use Rattle.ecp_command.specs.declared.input.call.Call.{Call as TheCall}
 use Rattle.ecp_command.specs.declared.input.form.Form.{Form}
 use Rattle.ecp_command.specs.declared.input.form.Form.TheVariants as form
 use Rattle.ecp_command.specs.declared.input.numbered.Numbered.{Numbered}
 use Rattle.ecp_command.specs.declared.input.session.Session.{Session}
 use Rattle.ecp_command.specs.Input.Accepted.{session_view}
-use Rattle.ecp_command.specs.Input.Calls.{planned, calls_of, has_calls, session_of, sessions_of, SessionCalls}
+use Rattle.ecp_command.specs.Input.Calls.{planned, calls_of, has_calls, is_barrier, session_of, sessions_of, phases_of, SessionCalls}
 use Rattle.ecp_command.specs.Input.Forms.{Spells, SpellEach}
-use Rattle.ecp_command.specs.Input.Sessions.{IsSession, HaveCalls}
+use Rattle.ecp_command.specs.Input.Sessions.{IsSession, HaveCalls, GainCall}
 use Rattle.ecp_command.specs.Input.Script.{forms_of}
-use Rattle.ecp_command.specs.Input.Owner.{session_after}
-use Rattle.ecp_command.proofs.Inputs.Owning.{after_session, after_call, calls_session, calls_call}
+use Rattle.ecp_command.proofs.Inputs.Appending.{session_after, phase_after, after_session, after_barrier, after_call, phase_session, phase_barrier, phase_call, calls_session, calls_barrier, calls_call, phases_count, phases_few}
 
 pub range_more : (a n : ℕ) → range_with_len a (n + 1) ≡ range_with_len a n ++ (a + n) ∷ []
 range_more a zero = let e : a ≡ a + 0 = omega arith in ap (λ (x : ℕ). x ∷ []) e
@@ -37,24 +37,57 @@ one_session n sessions s number none have =
 forms-push : (ns : List Numbered) (n : Numbered) → forms_of (ns ++ n ∷ []) ≡ forms_of ns ++ n.form ∷ []
 forms-push ns n = map-append (λ (x : Numbered). x.form) ns (n ∷ [])
 
-pub push_session : (ns : List Numbered) (n : Numbered) (number : ℕ) (sessions : List Session) → n.form ≡ form.Session number → HaveCalls MAX_SESSIONS (calls_of (forms_of ns)) sessions → HaveCalls MAX_SESSIONS (calls_of (forms_of (ns ++ n ∷ []))) sessions
-push_session ns n number sessions e have =
-    let same : calls_of (forms_of (ns ++ n ∷ [])) ≡ calls_of (forms_of ns) = ap calls_of (forms-push ns n ∙ ap (λ (f : Form). forms_of ns ++ f ∷ []) e) ∙ calls_session 0 number (forms_of ns) in
-    subst (λ cs. HaveCalls MAX_SESSIONS cs sessions) (sym same) have
+-- the lines yielded were gathered: these are the sessions with their calls, and the session and the phase of the next line
+pub record AreGathered (ns : List Numbered) (sessions : List Session) (session phase : ℕ) : Type 0 where
+  pub have : HaveCalls MAX_SESSIONS (calls_of (forms_of ns)) sessions
+  pub session_is : session ≡ session_after 0 (forms_of ns)
+  pub phase_is : phase ≡ phase_after 0 (forms_of ns)
+  pub below : session < MAX_SESSIONS
 
-pub session_then : (ns : List Numbered) (n : Numbered) (number : ℕ) → n.form ≡ form.Session number → number ≡ session_after 0 (forms_of (ns ++ n ∷ []))
-session_then ns n number e = sym (ap (session_after 0) (forms-push ns n ∙ ap (λ (f : Form). forms_of ns ++ f ∷ []) e) ∙ after_session 0 number (forms_of ns))
+-- the forms with one more line
+forms_with : (ns : List Numbered) (n : Numbered) (f : Form) → n.form ≡ f → forms_of (ns ++ n ∷ []) ≡ forms_of ns ++ f ∷ []
+forms_with ns n f e = forms-push ns n ∙ ap (λ (g : Form). forms_of ns ++ g ∷ []) e
 
-pub push_call : (ns : List Numbered) (n : Numbered) (call given : TheCall) (session : ℕ) (sessions : List Session) → n.form ≡ form.Call call → given ≡ call → session ≡ session_after 0 (forms_of ns)
-    → HaveCalls MAX_SESSIONS (calls_of (forms_of ns) ++ (session, planned given) ∷ []) sessions → HaveCalls MAX_SESSIONS (calls_of (forms_of (ns ++ n ∷ []))) sessions
-push_call ns n call given session sessions e same_call at have =
-    let same : calls_of (forms_of (ns ++ n ∷ [])) ≡ calls_of (forms_of ns) ++ (session, planned call) ∷ [] = ap calls_of (forms-push ns n ∙ ap (λ (f : Form). forms_of ns ++ f ∷ []) e) ∙ calls_call 0 call (forms_of ns)
-    ∙ ap (λ (s : ℕ). calls_of (forms_of ns) ++ (s, planned call) ∷ []) (sym at) in
-    let at_call : HaveCalls MAX_SESSIONS (calls_of (forms_of ns) ++ (session, planned call) ∷ []) sessions = subst (λ (x : TheCall). HaveCalls MAX_SESSIONS (calls_of (forms_of ns) ++ (session, planned x) ∷ []) sessions) same_call have in
-    subst (λ cs. HaveCalls MAX_SESSIONS cs sessions) (sym same) at_call
+pub push_session : (ns : List Numbered) (n : Numbered) (number : ℕ) (sessions : List Session) (session phase : ℕ) → n.form ≡ form.Session number → number < MAX_SESSIONS → AreGathered ns sessions session phase
+    → AreGathered (ns ++ n ∷ []) sessions number phase
+push_session ns n number sessions session phase e below g =
+    let forms = forms_with ns n (form.Session number) e in
+    record {
+      have = subst (λ cs. HaveCalls MAX_SESSIONS cs sessions) (sym (ap calls_of forms ∙ calls_session 0 0 number (forms_of ns))) g.have;
+      session_is = sym (ap (session_after 0) forms ∙ after_session 0 number (forms_of ns));
+      phase_is = g.phase_is ∙ sym (ap (phase_after 0) forms ∙ phase_session 0 number (forms_of ns));
+      below = below;
+    }
 
-pub session_still : (ns : List Numbered) (n : Numbered) (call : TheCall) (session : ℕ) → n.form ≡ form.Call call → session ≡ session_after 0 (forms_of ns) → session ≡ session_after 0 (forms_of (ns ++ n ∷ []))
-session_still ns n call session e at = at ∙ sym (ap (session_after 0) (forms-push ns n ∙ ap (λ (f : Form). forms_of ns ++ f ∷ []) e) ∙ after_call 0 call (forms_of ns))
+pub push_barrier : (ns : List Numbered) (n : Numbered) (sessions : List Session) (session phase : ℕ) → n.form ≡ form.Barrier → AreGathered ns sessions session phase → AreGathered (ns ++ n ∷ []) sessions session (phase + 1)
+push_barrier ns n sessions session phase e g =
+    let forms = forms_with ns n form.Barrier e in
+    record {
+      have = subst (λ cs. HaveCalls MAX_SESSIONS cs sessions) (sym (ap calls_of forms ∙ calls_barrier 0 0 (forms_of ns))) g.have;
+      session_is = g.session_is ∙ sym (ap (session_after 0) forms ∙ after_barrier 0 (forms_of ns));
+      phase_is = ap (λ (p : ℕ). p + 1) g.phase_is ∙ sym (ap (phase_after 0) forms ∙ phase_barrier 0 (forms_of ns));
+      below = g.below;
+    }
+
+pub push_call : (ns : List Numbered) (n : Numbered) (call given : TheCall) (old new : List Session) (session phase : ℕ) → n.form ≡ form.Call call → given ≡ call → AreGathered ns old session phase
+    → GainCall session (planned phase given) old new → AreGathered (ns ++ n ∷ []) new session phase
+push_call ns n call given old new session phase e same g gain =
+    let forms = forms_with ns n (form.Call call) e in
+    let calls : calls_of (forms_of (ns ++ n ∷ [])) ≡ calls_of (forms_of ns) ++ (session, planned phase given) ∷ [] =
+    ap calls_of forms ∙ calls_call 0 0 call (forms_of ns)
+    ∙ ap (λ (s : ℕ). calls_of (forms_of ns) ++ (s, planned (phase_after 0 (forms_of ns)) call) ∷ []) (sym g.session_is)
+    ∙ ap (λ (p : ℕ). calls_of (forms_of ns) ++ (session, planned p call) ∷ []) (sym g.phase_is)
+    ∙ ap (λ (c : TheCall). calls_of (forms_of ns) ++ (session, planned phase c) ∷ []) (sym same) in
+    record {
+      have = subst (λ cs. HaveCalls MAX_SESSIONS cs new) (sym calls) (gain (calls_of (forms_of ns)) g.have);
+      session_is = g.session_is ∙ sym (ap (session_after 0) forms ∙ after_call 0 call (forms_of ns));
+      phase_is = g.phase_is ∙ sym (ap (phase_after 0) forms ∙ phase_call 0 call (forms_of ns));
+      below = g.below;
+    }
+
+-- there are no more phases than lines, which are few
+pub few_fit : (ns all : List Numbered) (sessions : List Session) (session phase : ℕ) → AreGathered ns sessions session phase → length ns ≤ length all → length all ≤ MAX_LINES → phase + 1 < 2 ^ 32
+few_fit ns all sessions session phase g le few = omega (arith, g.phase_is, phases_few 0 (forms_of ns), length-map ns (λ (n : Numbered). n.form), le, few)
 
 pub session_below : (n : Numbered) (number : ℕ) → n.form ≡ form.Session number → IsSession n.form → number < MAX_SESSIONS
 session_below n number e h = subst (λ (f : Form). IsSession f) e h
@@ -87,17 +120,24 @@ each_session (l ∷ ls) (n ∷ ns) h = (is_session l.1 n.form h.0, each_session 
   where
     is_session : (line : List ℕ) (f : Form) → Spells line f → IsSession f
     is_session line (form.Session number) h = h.0
+    is_session line form.Barrier h = tt
     is_session line (form.Call call) h = tt
 
 pub are_sessions : (ls : List (ℕ × List ℕ)) (ns : List Numbered) → SpellEach ls (forms_of ns) → All (λ n. IsSession n.form) ns
 are_sessions ls ns h = All-from_recursion (λ n. IsSession n.form) ns (each_session ls ns h)
+
+-- there are as many lines as forms
+pub few_forms : (ns : List Numbered) → length (forms_of ns) ≤ MAX_LINES → length ns ≤ MAX_LINES
+few_forms ns few = omega (arith, few, length-map ns (λ (n : Numbered). n.form))
 
 -- ---- what a loop over the lines has yielded
 
 pub is_next : (all yielded : List Numbered) (n : Numbered) → All (λ x. IsSession x.form) all → length yielded < length all → n ≡ get_or all (length yielded) n → IsSession n.form
 is_next all yielded n h lt is = subst (λ (x : Numbered). IsSession x.form) (sym is) (h (length yielded) n lt)
 
-pub all_yielded : (all yielded : List Numbered) (sessions kept : List Session) → map (λ (x : Numbered). x) yielded ≡ all → HaveCalls MAX_SESSIONS (calls_of (forms_of yielded)) sessions → kept ≡ filter is_kept sessions → map session_view kept ≡ sessions_of (forms_of all)
-all_yielded all yielded sessions kept e have k =
+pub all_yielded : (all yielded : List Numbered) (sessions kept : List Session) (session phase : ℕ) → map (λ (x : Numbered). x) yielded ≡ all → AreGathered yielded sessions session phase → kept ≡ filter is_kept sessions
+    → (map session_view kept ≡ sessions_of (forms_of all)) × (phase + 1 ≡ phases_of (forms_of all))
+all_yielded all yielded sessions kept session phase e g k =
     let same : yielded ≡ all = sym (map-id yielded) ∙ e in
-    gathered all sessions kept (subst (λ (ns : List Numbered). HaveCalls MAX_SESSIONS (calls_of (forms_of ns)) sessions) same have) k
+    let phase_is : phase ≡ 0 + count_by is_barrier (forms_of all) = g.phase_is ∙ ap (λ (ns : List Numbered). phase_after 0 (forms_of ns)) same ∙ phases_count 0 (forms_of all) in
+    (gathered all sessions kept (subst (λ (ns : List Numbered). HaveCalls MAX_SESSIONS (calls_of (forms_of ns)) sessions) same g.have) k, omega (arith, phase_is))

@@ -8,7 +8,7 @@ use Rattle.ecp_command.specs.declared.input.form.Form.{Form}
 use Rattle.ecp_command.specs.declared.input.form.Form.TheVariants as form
 use Rattle.ecp_command.specs.Input.Forms.{IsHex, Spells}
 use Rattle.ecp_command.proofs.Decimals.{same_number}
-use Rattle.ecp_command.proofs.Inputs.Spelled.{same_cut, clear_name, session_is, put_is, read_is, lose_is}
+use Rattle.ecp_command.proofs.Inputs.Spelled.{same_cut, clear_name, session_is, barrier_is, put_is, read_is, lose_is}
 
 same_bytes : (d a b : List ℕ) → IsHex d a → IsHex d b → a ≡ b
 same_bytes d a b (inl x) (inl y) = x.1 ∙ sym y.1
@@ -26,6 +26,7 @@ one_form line (form.Session n) g h k =
     let p = session_is (decimal n) g (at line (codes "session " ++ decimal n) g h.1 k) in
     let e : n ≡ p.0 = same_number n p.0 (omega arith) (omega arith) p.2 in
     rw e (sym p.3)
+one_form line form.Barrier g h k = sym (barrier_is g (at line (codes "barrier") g h k))
 one_form line (form.Call (Put name bytes)) g h k =
     let tail : List ℕ = name ++ (codes " hex " ++ h.1) in
     let whole : line ≡ codes "put " ++ tail = h.3 ∙ append_assoc (codes "put " ++ name) (codes " hex ") h.1 ∙ append_assoc (codes "put ") name (codes " hex " ++ h.1) in

@@ -52,6 +52,7 @@ begins_other line other e d = eqb-false _ _ d (ap (λ (l : List ℕ). get_or l 0
 
 pub session_is : (rest : List ℕ) (f : Form) → Spells (codes "session " ++ rest) f → (n : ℕ) × (n < MAX_SESSIONS) × (rest ≡ decimal n) × (f ≡ form.Session n)
 session_is rest (form.Session n) h = (n, h.0, append_cancel_left (codes "session ") rest (decimal n) h.1, refl)
+session_is rest form.Barrier h = absurd (begins_other _ _ h refl)
 session_is rest (form.Call (Put name bytes)) h = absurd (begins_other _ _ h.3 refl)
 session_is rest (form.Call (Read name index)) h = absurd (begins_other _ _ h.2 refl)
 session_is rest (form.Call (Lose node)) h = absurd (begins_other _ _ h.1 refl)
@@ -73,6 +74,7 @@ pub record IsPut (rest : List ℕ) (f : Form) : Type 0 where
 
 pub put_is : (rest : List ℕ) (f : Form) → Spells (codes "put " ++ rest) f → IsPut rest f
 put_is rest (form.Session n) h = absurd (begins_other _ _ h.1 refl)
+put_is rest form.Barrier h = absurd (begins_other _ _ h refl)
 put_is rest (form.Call (Put name bytes)) h = record {
   name = name;
   digits = h.1;
@@ -101,6 +103,7 @@ pub record IsRead (rest : List ℕ) (f : Form) : Type 0 where
 
 pub read_is : (rest : List ℕ) (f : Form) → Spells (codes "read " ++ rest) f → IsRead rest f
 read_is rest (form.Session n) h = absurd (begins_other _ _ h.1 refl)
+read_is rest form.Barrier h = absurd (begins_other _ _ h refl)
 read_is rest (form.Call (Put name bytes)) h = absurd (begins_other _ _ h.3 refl)
 read_is rest (form.Call (Read name index)) h = record {
   name = name;
@@ -117,8 +120,21 @@ read_is rest (form.Call (Join node)) h = absurd h
 read_is rest (form.Call (Rebuild from to)) h = absurd h
 read_is rest (form.Call (Stat name)) h = absurd h
 
+pub barrier_is : (f : Form) → Spells (codes "barrier") f → f ≡ form.Barrier
+barrier_is (form.Session n) h = absurd (begins_other _ _ h.1 refl)
+barrier_is form.Barrier h = refl
+barrier_is (form.Call (Put name bytes)) h = absurd (begins_other _ _ h.3 refl)
+barrier_is (form.Call (Read name index)) h = absurd (begins_other _ _ h.2 refl)
+barrier_is (form.Call (Lose node)) h = absurd (begins_other _ _ h.1 refl)
+barrier_is (form.Call (Sum name index)) h = absurd h
+barrier_is (form.Call (Cat name)) h = absurd h
+barrier_is (form.Call (Join node)) h = absurd h
+barrier_is (form.Call (Rebuild from to)) h = absurd h
+barrier_is (form.Call (Stat name)) h = absurd h
+
 pub lose_is : (rest : List ℕ) (f : Form) → Spells (codes "lose " ++ rest) f → (n : ℕ) × (n < 2 ^ 32) × (rest ≡ decimal n) × (f ≡ form.Call (Lose n))
 lose_is rest (form.Session n) h = absurd (begins_other _ _ h.1 refl)
+lose_is rest form.Barrier h = absurd (begins_other _ _ h refl)
 lose_is rest (form.Call (Put name bytes)) h = absurd (begins_other _ _ h.3 refl)
 lose_is rest (form.Call (Read name index)) h = absurd (begins_other _ _ h.2 refl)
 lose_is rest (form.Call (Lose node)) h = (node, h.0, append_cancel_left (codes "lose ") rest (decimal node) h.1, refl)
@@ -136,6 +152,7 @@ behind line word rest w tail c clear e = (same_cut 32 word w rest tail c.clear c
 
 pub no_word : (line word rest : List ℕ) → IsCut 32 line word rest → word ≢ codes "session" → word ≢ codes "put" → word ≢ codes "read" → word ≢ codes "lose" → (f : Form) → Spells line f → ⊥
 no_word line word rest c s p r l (form.Session n) h = s (behind line word rest (codes "session") (decimal n) c (clear_word (codes "session") refl) h.1)
+no_word line word rest c s p r l form.Barrier h = not_clear 32 word rest (subst (λ (t : List ℕ). IsClear 32 t) (sym h ∙ c.whole) (clear_word (codes "barrier") refl))
 no_word line word rest c s p r l (form.Call (Put name bytes)) h =
     p (behind line word rest (codes "put") (name ++ (codes " hex " ++ h.1)) c (clear_word (codes "put") refl) (h.3 ∙ append_assoc (codes "put " ++ name) (codes " hex ") h.1 ∙ append_assoc (codes "put ") name (codes " hex " ++ h.1)))
 no_word line word rest c s p r l (form.Call (Read name index)) h =

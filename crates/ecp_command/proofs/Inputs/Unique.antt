@@ -7,18 +7,15 @@ use Rattle.std.proofs.lemmas.List.Sums.{sum_by-append}
 use Rattle.toml.specs.Parse.{parse_document}
 use Rattle.ecp_shape.specs.declared.limits.TheConstants.{MAX_PUT_BYTES, MAX_PUT_STRIPES, MAX_STORED, MAX_READ, MAX_ENTRIES}
 use Rattle.ecp_command.specs.declared.input.form.Form.{Form}
-use Rattle.ecp_command.specs.declared.input.form.Form.TheVariants.{Session, Call}
 use Rattle.ecp_command.specs.declared.input.head.Head.{Head}
-use Rattle.ecp_command.specs.declared.input.planned.Planned.{Planned}
 use Rattle.ecp_command.specs.declared.input.refusal.Refusal.{Refusal}
 use Rattle.ecp_command.specs.declared.input.refusal.Refusal.TheVariants.{NotToml, NoRule, Key, UnknownKey, Line, NoMemory}
 use Rattle.ecp_command.specs.Input.Accepted.{Content, HasHead, HasForms, IsAccepted, RefusesForm, RefusesCost, RefusesLine, RefusesHead, HasNoDocument, MayRefuse}
-use Rattle.ecp_command.specs.Input.Calls.{planned, calls_from, calls_of, AreOneSession, SessionCalls, sessions_of}
+use Rattle.ecp_command.specs.Input.Calls.{SessionCalls, sessions_of, phases_of}
 use Rattle.ecp_command.specs.Input.Forms.{Spells, SpellEach}
 use Rattle.ecp_command.specs.Input.Limits.{KeepLimits, put_len, put_stripes, is_read, cost}
 use Rattle.ecp_command.specs.Input.Lines.{rule, text_of, numbered, Parts, ArePartsOf, HasNoRule}
 use Rattle.ecp_command.specs.Input.Settings.{IsDocument, head_of}
-use Rattle.ecp_command.specs.Input.Owner.{session_after}
 use Rattle.ecp_command.proofs.Inputs.OneForm.{one_form}
 
 -- ---- the parts of an input
@@ -88,15 +85,6 @@ All-front : {X : Type 0} (P : X → Type 0) (a b : List X) → AllByRecursion P 
 All-front P [] b h = tt
 All-front P (x ∷ a) b h = (h.0, All-front P a b h.1)
 
-calls-append : (s : ℕ) (a b : List Form) → calls_from s (a ++ b) ≡ calls_from s a ++ calls_from (session_after s a) b
-calls-append s [] b = refl
-calls-append s (Session n ∷ a) b = calls-append n a b
-calls-append s (Call c ∷ a) b = ap (λ (cs : List (ℕ × Planned)). (s, planned c) ∷ cs) (calls-append s a b)
-
-one_front : (xs ys : List (ℕ × Planned)) → AreOneSession (xs ++ ys) → AreOneSession xs
-one_front [] ys h = tt
-one_front (x ∷ xs) ys h = All-front (λ c. c.0 ≡ x.0) xs ys h
-
 sum_front : (f : Form → ℕ) (a b : List Form) → sum_by f a ≤ sum_by f (a ++ b)
 sum_front f a b = omega (arith, sum_by-append f a b)
 
@@ -115,7 +103,6 @@ keep_front head a b h = record {
   stripes = omega (arith, h.stripes, sum_front (put_stripes head) a b);
   stored = below_product (sum_by (put_stripes head) a) (sum_by (put_stripes head) (a ++ b)) head.n head.block MAX_STORED (sum_front (put_stripes head) a b) h.stored;
   reads = below_times (count_by is_read a) (count_by is_read (a ++ b)) head.block MAX_READ (sum_front (λ f. cond (is_read f) 1 0) a b) h.reads;
-  one_session = one_front (calls_of a) (calls_from (session_after 0 a) b) (subst (λ (cs : List (ℕ × Planned)). AreOneSession cs) (calls-append 0 a b) h.one_session);
 }
 
 -- a script with forms has no refused line
@@ -215,7 +202,7 @@ same_content input a b h k =
     let head : a.head ≡ b.head = head_is a.head b.head same.1 in
     let forms : h.forms ≡ k.forms = same_forms k.script h.forms k.forms (subst (λ (ls : List (ℕ × List ℕ)). SpellEach ls h.forms) same.0 h.has_forms.spelled) k.has_forms.spelled in
     let sessions : a.sessions ≡ b.sessions = h.sessions ∙ ap sessions_of forms ∙ sym k.sessions in
-    let phases : a.phases ≡ b.phases = h.phases ∙ sym k.phases in
+    let phases : a.phases ≡ b.phases = h.phases ∙ ap phases_of forms ∙ sym k.phases in
     ap (λ (x : Head). content_of x a.sessions a.phases) head ∙ ap (λ (x : List SessionCalls). content_of b.head x a.phases) sessions ∙ ap (content_of b.head b.sessions) phases
 
 not_line : (input : List ℕ) (c : Content) (n : ℕ) → IsAccepted input c → RefusesLine input n → ⊥

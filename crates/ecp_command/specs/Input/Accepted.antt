@@ -12,7 +12,7 @@ use Rattle.ecp_command.specs.Input.Lines.{Parts, ArePartsOf, HasNoRule}
 use Rattle.ecp_command.specs.Input.Settings.{IsDocument, head_of}
 use Rattle.ecp_command.specs.Input.Forms.{Spells, SpellEach}
 use Rattle.ecp_command.specs.Input.Limits.{KeepLimits, cost}
-use Rattle.ecp_command.specs.Input.Calls.{SessionCalls, sessions_of}
+use Rattle.ecp_command.specs.Input.Calls.{SessionCalls, sessions_of, phases_of}
 
 -- what an input asks for, without where it lies in memory
 pub record Content : Type 0 where
@@ -50,7 +50,7 @@ pub record IsAccepted (input : List ℕ) (content : Content) : Type 0 where
   pub has_forms : HasForms content.head script forms
   pub cheap : sum_by cost forms ≤ MAX_ENTRIES
   pub sessions : content.sessions ≡ sessions_of forms
-  pub phases : content.phases ≡ 1
+  pub phases : content.phases ≡ phases_of forms
 
 -- The line of this number is the first that has no form with which the lines up to it keep the limits.
 pub record RefusesForm (head : Head) (script : List (ℕ × List ℕ)) (number : ℕ) : Type 0 where

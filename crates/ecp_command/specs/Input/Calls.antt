@@ -1,24 +1,36 @@
 -- The calls of a script, with their sessions and phases.
-use Rattle.std.specs.Prelude.{◌≡◌, ℕ, ◌==◌, not, Bool, List, [], ◌∷◌, length, map, filter}
-use Rattle.std.specs.List.{range_with_len, AllByRecursion}
+use Rattle.std.specs.Prelude.{ℕ, ◌+◌, ◌==◌, not, Bool, true, false, List, [], ◌∷◌, length, map, filter, count_by}
+use Rattle.std.specs.List.{range_with_len}
 use Rattle.ecp_shape.specs.declared.limits.TheConstants.{MAX_SESSIONS}
 use Rattle.ecp_command.specs.declared.input.call.Call.{Call as TheCall}
 use Rattle.ecp_command.specs.declared.input.form.Form.{Form}
-use Rattle.ecp_command.specs.declared.input.form.Form.TheVariants.{Session, Call}
+use Rattle.ecp_command.specs.declared.input.form.Form.TheVariants.{Session, Barrier, Call}
 use Rattle.ecp_command.specs.declared.input.planned.Planned.{Planned}
 
--- a call of the one phase that there is
-abbrev pub planned : TheCall → Planned
-planned call = record { phase = 0; call = call }
+-- a call in this phase
+abbrev pub planned : ℕ → TheCall → Planned
+planned phase call = record { phase = phase; call = call }
 
--- Each call with its session. The lines after a `session` belong to that one, and those before the first one to session 0.
-abbrev pub calls_from : ℕ → List Form → List (ℕ × Planned)
-calls_from session [] = []
-calls_from session (Session number ∷ rest) = calls_from number rest
-calls_from session (Call call ∷ rest) = (session, planned call) ∷ calls_from session rest
+-- Each call with its session and its phase. The lines after a `session` belong to that one, also over a `barrier`, and those before the
+-- first one to session 0. The lines after a `barrier` are in the next phase, and those before the first one in phase 0.
+abbrev pub calls_from : (session phase : ℕ) → List Form → List (ℕ × Planned)
+calls_from session phase [] = []
+calls_from session phase (Session number ∷ rest) = calls_from number phase rest
+calls_from session phase (Barrier ∷ rest) = calls_from session (phase + 1) rest
+calls_from session phase (Call call ∷ rest) = (session, planned phase call) ∷ calls_from session phase rest
 
 abbrev pub calls_of : List Form → List (ℕ × Planned)
-calls_of forms = calls_from 0 forms
+calls_of forms = calls_from 0 0 forms
+
+-- whether the next phase begins at the line
+abbrev pub is_barrier : Form → Bool
+is_barrier (Session number) = false
+is_barrier Barrier = true
+is_barrier (Call call) = false
+
+-- how many phases the lines are in
+abbrev pub phases_of : List Form → ℕ
+phases_of forms = 1 + count_by is_barrier forms
 
 -- the calls of one session, in their order
 pub record SessionCalls : Type 0 where
@@ -34,8 +46,3 @@ has_calls s = not (length s.calls == 0)
 -- the sessions with at least one call, in rising order
 abbrev pub sessions_of : List Form → List SessionCalls
 sessions_of forms = filter has_calls (map (session_of (calls_of forms)) (range_with_len 0 MAX_SESSIONS))
-
--- all calls are of the session of the first one
-abbrev pub AreOneSession : List (ℕ × Planned) → Type 0
-AreOneSession [] = Unit {0}
-AreOneSession (c ∷ cs) = AllByRecursion (λ other. other.0 ≡ c.0) cs

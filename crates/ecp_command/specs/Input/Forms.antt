@@ -55,6 +55,7 @@ SpellsCall line (Stat name) = ⊥
 -- the line spells the form
 abbrev pub Spells : List ℕ → Form → Type 0
 Spells line (form.Session number) = (number < MAX_SESSIONS) × (line ≡ codes "session " ++ decimal number)
+Spells line form.Barrier = line ≡ codes "barrier"
 Spells line (form.Call call) = SpellsCall line call
 
 -- the form of a line, where it has one

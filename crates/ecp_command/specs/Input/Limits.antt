@@ -5,13 +5,13 @@ use Rattle.ecp_code.specs.Stripes.{stripe_count}
 use Rattle.ecp_shape.specs.declared.limits.TheConstants.{MAX_LINES, MAX_PUT_BYTES, MAX_PUT_STRIPES, MAX_BYTES, MAX_STRIPES, MAX_STORED, MAX_READ}
 use Rattle.ecp_command.specs.declared.input.call.Call.TheVariants.{Put, Read, Sum, Cat, Lose, Join, Rebuild, Stat}
 use Rattle.ecp_command.specs.declared.input.form.Form.{Form}
-use Rattle.ecp_command.specs.declared.input.form.Form.TheVariants.{Session, Call}
+use Rattle.ecp_command.specs.declared.input.form.Form.TheVariants.{Session, Barrier, Call}
 use Rattle.ecp_command.specs.declared.input.head.Head.{Head}
-use Rattle.ecp_command.specs.Input.Calls.{calls_of, AreOneSession}
 
 -- how many bytes a line puts
 abbrev pub put_len : Form → ℕ
 put_len (Session number) = 0
+put_len Barrier = 0
 put_len (Call (Put name bytes)) = length bytes
 put_len (Call (Read name index)) = 0
 put_len (Call (Sum name index)) = 0
@@ -28,6 +28,7 @@ put_stripes head f = stripe_count head.k head.block (put_len f)
 -- whether the line asks for a block
 abbrev pub is_read : Form → Bool
 is_read (Session number) = false
+is_read Barrier = false
 is_read (Call (Put name bytes)) = false
 is_read (Call (Read name index)) = true
 is_read (Call (Sum name index)) = false
@@ -46,11 +47,11 @@ pub record KeepLimits (head : Head) (forms : List Form) : Type 0 where
   pub stripes : sum_by (put_stripes head) forms ≤ MAX_STRIPES
   pub stored : sum_by (put_stripes head) forms * head.n * head.block ≤ MAX_STORED
   pub reads : count_by is_read forms * head.block ≤ MAX_READ
-  pub one_session : AreOneSession (calls_of forms)
 
 -- what a line costs, of the entries that a history may have
 abbrev pub cost : Form → ℕ
 cost (Session number) = 0
+cost Barrier = 0
 cost (Call (Put name bytes)) = 1
 cost (Call (Read name index)) = 1
 cost (Call (Sum name index)) = 1

@@ -4,7 +4,6 @@ use Rattle.ecp_command.specs.declared.input.form.Form.{Form}
 use Rattle.ecp_command.specs.declared.input.head.Head.{Head}
 use Rattle.ecp_command.specs.declared.input.totals.Totals.{Totals}
 use Rattle.ecp_command.specs.Input.Limits.{KeepLimits, put_len, put_stripes, is_read}
-use Rattle.ecp_command.specs.Input.Owner.{IsOwner}
 
 -- the lines keep the limits, and come to this
 pub record AreTotals (head : Head) (forms : List Form) (totals : Totals) : Type 0 where
@@ -13,7 +12,6 @@ pub record AreTotals (head : Head) (forms : List Form) (totals : Totals) : Type 
   pub bytes : totals.bytes ≡ sum_by put_len forms
   pub stripes : totals.stripes ≡ sum_by (put_stripes head) forms
   pub reads : totals.reads ≡ count_by is_read forms
-  pub owner : IsOwner forms totals.owner
 
 -- the totals of the lines, where these keep the limits
 abbrev pub HaveTotals : Head → List Form → Option Totals → Type 0

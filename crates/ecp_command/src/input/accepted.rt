@@ -32,10 +32,10 @@ pub fn read_input(alloc: Global, bytes: &[u8]) -> Result<Input, Refusal>
     if let Some(line) = line_over(&script.forms) {
         return Err(Refusal::Line(line));
     }
-    let sessions = sessions_with_calls(alloc, script.forms)?;
+    let schedule = sessions_with_calls(alloc, script.forms)?;
     Ok(Input {
         head,
-        sessions,
-        phases: 1,
+        sessions: schedule.sessions,
+        phases: schedule.phases,
     })
 }

@@ -29,7 +29,7 @@ fn cost(form: &Form) -> u64
     ensures small { result ≤ 1 }
 {
     match form {
-        Form::Session(_) => 0,
+        Form::Session(_) | Form::Barrier => 0,
         Form::Call(
             Call::Put { .. }
             | Call::Read { .. }

@@ -1,4 +1,5 @@
 ghost use Rattle.std.specs.Prelude.{◌≡◌, ◌↔◌, ◌++◌, ℕ, List, IsTrue, IfOk, MatchOption, codes};
+ghost use Rattle.ecp_command.specs.Input.Cuts.{IsClear};
 ghost use Rattle.ecp_command.specs.Input.Forms.{is_name_byte, IsName, IsHex, IsFormOf};
 
 use crate::input::call::Call;
@@ -20,12 +21,15 @@ const READ: &[u8] = b"read";
 
 const LOSE: &[u8] = b"lose";
 
+// The one form without a second word.
+const BARRIER: &[u8] = b"barrier";
+
 /// The form of a line, or None where it has none of them. Each form has its word here.
 pub(crate) fn form_of(alloc: Global, line: &[u8]) -> Result<Option<Form>, NoMemory>
     ensures { IfOk result (IsFormOf line.now) }
 {
     let Some((word, rest)) = cut(line, b' ') else {
-        return Ok(None);
+        return Ok(barrier(line));
     };
     if word == SESSION {
         Ok(session(rest))
@@ -37,6 +41,18 @@ pub(crate) fn form_of(alloc: Global, line: &[u8]) -> Result<Option<Form>, NoMemo
         Ok(lose(rest))
     } else {
         Ok(None)
+    }
+}
+
+// `barrier`, of the lines without a space
+fn barrier(line: &[u8]) -> Option<Form>
+    requires { IsClear 32 line.now }
+    ensures { IsFormOf line.now result }
+{
+    if line == BARRIER {
+        Some(Form::Barrier)
+    } else {
+        None
     }
 }
 

@@ -8,7 +8,6 @@ ghost use Rattle.ecp_command.specs.Input.Totals.{AreTotals, HaveTotals};
 use crate::input::call::Call;
 use crate::input::form::Form;
 use crate::input::head::Head;
-use crate::input::owner::Owner;
 use crate::input::totals::Totals;
 use ecp_shape::limits::{
     MAX_BYTES, MAX_LINES, MAX_PUT_BYTES, MAX_PUT_STRIPES, MAX_READ, MAX_STORED, MAX_STRIPES,
@@ -23,7 +22,6 @@ pub(crate) fn no_lines(head: &Head) -> Totals
         bytes: 0,
         stripes: 0,
         reads: 0,
-        owner: Owner::new(),
     }
 }
 
@@ -43,13 +41,11 @@ pub(crate) fn with_line(head: &Head, totals: &Totals, form: &Form) -> Option<Tot
     )?;
     let reads = totals.reads + u64::from(is_read(form));
     within(reads * u64::from(head.block), MAX_READ)?;
-    let owner = totals.owner.after(form)?;
     Some(Totals {
         lines,
         bytes,
         stripes,
         reads,
-        owner,
     })
 }
 
@@ -67,6 +63,7 @@ fn put_len(form: &Form) -> u64
     match form {
         Form::Call(Call::Put { bytes, .. }) => bytes.len() as u64,
         Form::Session(_)
+        | Form::Barrier
         | Form::Call(
             Call::Read { .. }
             | Call::Sum { .. }
@@ -96,6 +93,7 @@ fn is_read(form: &Form) -> bool
     match form {
         Form::Call(Call::Read { .. }) => true,
         Form::Session(_)
+        | Form::Barrier
         | Form::Call(
             Call::Put { .. }
             | Call::Sum { .. }

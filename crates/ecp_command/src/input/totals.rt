@@ -1,8 +1,6 @@
 ghost use Rattle.std.specs.Prelude.{◌≤◌};
 ghost use Rattle.ecp_shape.specs.declared.limits.TheConstants.{MAX_LINES, MAX_BYTES, MAX_STRIPES};
 
-use crate::input::owner::Owner;
-
 /// What lines of a script come to.
 #[derive(Debug, Drop)]
 pub(crate) struct Totals {
@@ -14,7 +12,6 @@ pub(crate) struct Totals {
     pub stripes: u64,
     /// How many lines ask for a block.
     pub reads: u64,
-    pub owner: Owner,
     ghost few_lines: { lines ≤ MAX_LINES },
     ghost few_bytes: { bytes ≤ MAX_BYTES },
     ghost few_stripes: { stripes ≤ MAX_STRIPES },

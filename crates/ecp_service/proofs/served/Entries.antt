@@ -1,5 +1,5 @@
 -- Where the entries of the calls of an input stand in a history that has of each caller just them.
-use Rattle.std.proofs.Common.{◌≡◌, ℕ, ◌<◌, ◌==◌, true, false, List, Some, refl, sym, ◌∙◌, ap, subst, zero-add}
+use Rattle.std.proofs.Common.{◌≡◌, ℕ, ◌+◌, ◌<◌, ◌≤◌, ◌==◌, true, false, List, Some, refl, sym, ◌∙◌, ap, subst, zero-add}
 use Rattle.std.specs.Prelude.{slice_get, filter, count_by, find}
 use Rattle.std.proofs.lemmas.Option.{same_Some}
 use Rattle.std.proofs.lemmas.Bool.{false≢true, and_from, and_left, and_parts, eq-eqb, eqb-true, false_from_ne_true}
@@ -14,13 +14,18 @@ use Rattle.ecp_service.specs.Asked.{calls_in, call_at}
 use Rattle.ecp_service.proofs.served.Lists.{count_none, count_one, find_one}
 use Rattle.ecp_service.proofs.served.Callers.{is_by}
 use Rattle.ecp_service.proofs.served.Kept.{StoodAt, first_of_two, kept_there, one_place, passed, stood}
-use Rattle.ecp_service.proofs.served.Passes.{AreReplies, HasReply, IsReply, IsReplyAt, entry_of_call, reply_of_entry}
+use Rattle.ecp_service.proofs.served.Passes.{AreFenced, AreReplies, HasReply, IsReply, IsFenced, IsReplyAt, entry_of_call, fenced_call, reply_of_entry}
 
 -- of a caller the history has just the entries of its calls, as they were answered
 pub record HasCaller (content : Content) (answers : ℕ → List Answer) (history : List Entry) (c : ℕ) : Type 0 where
   pub entries : List Entry
   pub replies : AreReplies c 0 (calls_in content c) (answers c) entries
   pub just : filter (is_by c) history ≡ entries
+
+-- of a caller it has just those entries, each between the fences of its call's phase
+pub record HasFenced (content : Content) (answers : ℕ → List Answer) (fences : ℕ → ℕ) (history : List Entry) (c : ℕ) : Type 0 where
+  pub has : HasCaller content answers history c
+  pub fenced : AreFenced fences history (calls_in content c) has.entries
 
 -- so it has of each session that made an entry
 abbrev pub HasCallers : Content → (ℕ → List Answer) → List Entry → Type 0
@@ -131,3 +136,31 @@ in_order content answers history i j d e all here there session same less =
     let also : e.line.call ≡ passed (is_by d.line.caller) history j = second.numbered ∙ ap (λ (k : ℕ). passed (is_by k) history j) (sym same) in
     first_of_two (is_by d.line.caller) history i j
     (subst (λ (k : ℕ). k < passed (is_by d.line.caller) history j) first.numbered (subst (λ (k : ℕ). d.line.call < k) also less))
+
+-- ---- the fences of phases
+
+-- the entry of a call has its point and its place between the fences of the call's phase
+pub record LiesIn (fences : ℕ → ℕ) (phase i : ℕ) (e : Entry) : Type 0 where
+  pub begun : fences phase ≤ e.line.point
+  pub ended : i < fences (phase + 1)
+
+pub lies_in : (content : Content) (answers : ℕ → List Answer) (fences : ℕ → ℕ) (history : List Entry) (i : ℕ) (e : Entry) (p : Planned) → HasCallers content answers history
+    → HasFenced content answers fences history e.line.caller → e.line.caller < MAX_SESSIONS → slice_get history i ≡ Some e → call_at content e.line.caller e.line.call ≡ Some p
+    → LiesIn fences p.phase i e
+lies_in content answers fences history i e p all fenced session here asked =
+    let c : ℕ = e.line.caller in
+    let n : ℕ = e.line.call in
+    let one : HasEntry content answers history c n p = has_entry content answers history c n p fenced.has asked in
+    let its = fenced_call fences history c 0 (calls_in content c) (answers c) fenced.has.entries n p fenced.has.replies fenced.fenced asked in
+    let x : Entry = its.0 in
+    let lies : IsFenced fences history p x = its.1 in
+    let also : is_of c n x ≡ true =
+    and_from (x.line.caller == c) (x.line.call == n) (eq-eqb x.line.caller c its.2) (eq-eqb x.line.call n (its.3 ∙ zero-add n)) in
+    let mine : is_of c n e ≡ true = and_from (c == c) (n == n) (eq-eqb c c refl) (eq-eqb n n refl) in
+    let place : lies.place ≡ i =
+    its_place content answers history c n p session all one lies.place x lies.here also ∙ sym (its_place content answers history c n p session all one i e here mine) in
+    let same : x ≡ e = same_Some x e (sym lies.here ∙ ap (λ (k : ℕ). slice_get history k) place ∙ here) in
+    record {
+      begun = subst (λ (y : Entry). fences p.phase ≤ y.line.point) same lies.begun;
+      ended = subst (λ (k : ℕ). k < fences (p.phase + 1)) place lies.ended;
+    }

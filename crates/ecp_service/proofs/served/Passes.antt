@@ -1,10 +1,13 @@
 -- What a pass noted whose calls were answered: one entry for each call, in their order.
-use Rattle.std.proofs.Common.{◌≡◌, ℕ, zero, suc, ◌+◌, Bool, List, [], ◌∷◌, ◌++◌, length, map, Some, refl, sym, ◌∙◌, ap, subst, arith, add-zero, append-nil, append_assoc}
+use Rattle.std.proofs.Common.{◌≡◌, ℕ, zero, suc, ◌+◌, ◌<◌, ◌≤◌, Bool, List, [], ◌∷◌, ◌++◌, length, map, Some, refl, sym, ◌∙◌, ap, subst, arith, add-zero, append-nil, append_assoc, le_trans}
 use Rattle.std.specs.Prelude.{slice_get}
 use Rattle.std.specs.List.{enumerate_from}
+use mathlib.Core.List.{IsPrefix}
 use Rattle.std.proofs.lemmas.List.Elements.{All-head}
 use Rattle.std.proofs.lemmas.Option.{none-some, same_Some}
 use Rattle.ecp_shape.specs.declared.shape.Shape.{Shape}
+use Rattle.ecp_book.specs.Logs.{Log}
+use Rattle.ecp_book.proofs.Prefixes.{prefix_trans}
 use Rattle.ecp_cluster.specs.Answered.{Answered}
 use Rattle.ecp_cluster.specs.declared.answer.Answer.{Answer}
 use Rattle.ecp_command.specs.declared.input.call.Call as the_call
@@ -14,6 +17,7 @@ use Rattle.ecp_coord.specs.Numbers.{storing_of, stripes_asked}
 use Rattle.ecp_entry.specs.declared.entry.Entry.{Entry}
 use Rattle.ecp_entry.specs.declared.part.Part.TheVariants as part
 use Rattle.ecp_entry.specs.Items.{item}
+use Rattle.ecp_entry.specs.Told.{history_of}
 use Rattle.ecp_history.specs.Files.{Storing}
 use Rattle.ecp_sequencer.specs.Facts.{entries_noted}
 use Rattle.ecp_sequencer.specs.Notes.{Call}
@@ -21,7 +25,8 @@ use Rattle.ecp_sequencer.specs.Passes.{PassState}
 use Rattle.ecp_sequencer.specs.Steps as steps
 use Rattle.ecp_sequencer.specs.Steps.{Steps, call_with}
 use Rattle.ecp_service.specs.Asked.{deed_of, put_stripes}
-use Rattle.ecp_service.specs.Served.{Served, entered_bytes}
+use Rattle.ecp_service.specs.Served.{Served, ServedOne, entered_bytes}
+use Rattle.ecp_service.proofs.served.Fronts.{StandsLast, stands_last}
 
 -- the entry of a call that was answered so
 pub record IsReply (c n : ℕ) (p : Planned) (a : Answer) (e : Entry) : Type 0 where
@@ -38,14 +43,29 @@ AreReplies c n [] [] [] = Unit {0}
 AreReplies c n (p ∷ calls) (a ∷ answers) (e ∷ entries) = IsReply c n p a e × AreReplies c (n + 1) calls answers entries
 AreReplies c n _ _ _ = ⊥
 
--- a pass went from v to w, and noted just the entries of these calls
-pub record Went (v : PassState) (calls : List Planned) (answers : List Answer) (w : PassState) : Type 0 where
+-- the entry of a call has its point no earlier than the call's phase, and stands in the history before the next one
+pub record IsFenced (fences : ℕ → ℕ) (history : List Entry) (p : Planned) (e : Entry) : Type 0 where
+  pub begun : fences p.phase ≤ e.line.point
+  pub place : ℕ
+  pub here : slice_get history place ≡ Some e
+  pub ended : place < fences (p.phase + 1)
+
+-- so have those of these calls
+abbrev pub AreFenced : (ℕ → ℕ) → List Entry → List Planned → List Entry → Type 0
+AreFenced fences history [] [] = Unit {0}
+AreFenced fences history (p ∷ calls) (e ∷ entries) = IsFenced fences history p e × AreFenced fences history calls entries
+AreFenced fences history _ _ = ⊥
+
+-- A pass went from v to w, and noted just the entries of these calls, which stand in this history
+pub record Went (fences : ℕ → ℕ) (history : Log) (v : PassState) (calls : List Planned) (answers : List Answer) (w : PassState) : Type 0 where
   pub entries : List Entry
   pub replies : AreReplies v.caller v.calls calls answers entries
+  pub fenced : AreFenced fences (history_of history) calls entries
   pub noted : entries_noted w.notes ≡ entries_noted v.notes ++ map (item v.hand) entries
   pub hand : w.hand ≡ v.hand
   pub spare : w.spare ≡ v.spare
   pub count : w.calls ≡ v.calls + length calls
+  pub grows : IsPrefix v.front w.front
 
 -- the entry of one call
 one_reply : (shape : Shape) (told : Bool) (v u : PassState) (p : Planned) (a : Answer) (is : Answered shape told v (deed_of p.call) a.act (entered_bytes p.call a) u)
@@ -61,43 +81,64 @@ one_reply shape told v u p a is =
       bytes = is.bytes;
     }
 
-pub went : (shape : Shape) (told : Bool) (v w : PassState) (calls : List Planned) (answers : List Answer) → Served shape told v calls answers w → Went v calls answers w
-went shape told v w [] [] same = record {
+pub went : (shape : Shape) (told : Bool) (fences : ℕ → ℕ) (history : Log) (v w : PassState) (calls : List Planned) (answers : List Answer) → IsPrefix w.front history
+    → length answers ≡ length calls → Served shape told fences v calls answers w → Went fences history v calls answers w
+went shape told fences history v w [] [] begins long grown = record {
   entries = [];
   replies = tt;
-  noted = ap (λ (p : PassState). entries_noted p.notes) same ∙ sym (append-nil (entries_noted v.notes));
-  hand = ap (λ (p : PassState). p.hand) same;
-  spare = ap (λ (p : PassState). p.spare) same;
-  count = ap (λ (p : PassState). p.calls) same ∙ sym (add-zero v.calls);
+  fenced = tt;
+  noted = ap (λ (p : PassState). entries_noted p.notes) grown.same ∙ sym (append-nil (entries_noted v.notes));
+  hand = ap (λ (p : PassState). p.hand) grown.same;
+  spare = ap (λ (p : PassState). p.spare) grown.same;
+  count = ap (λ (p : PassState). p.calls) grown.same ∙ sym (add-zero v.calls);
+  grows = grown.longer;
 }
-went shape told v w [] (a ∷ answers) served = absurd served
-went shape told v w (p ∷ calls) [] served = absurd served
-went shape told v w (p ∷ calls) (a ∷ answers) served =
+went shape told fences history v w [] (a ∷ answers) begins long served = absurd served
+went shape told fences history v w (p ∷ calls) [] begins long served = absurd (omega (arith, long))
+went shape told fences history v w (p ∷ calls) (a ∷ answers) begins long served =
     let u : PassState = served.0 in
-    let one : Answered shape told v (deed_of p.call) a.act (entered_bytes p.call a) u = served.1 in
-    let rest : Went u calls answers w = went shape told u w calls answers served.2 in
-    let step : Steps v (one.entry ∷ []) one.called.more u = one.called.steps in
-    let noted_one : entries_noted u.notes ≡ entries_noted v.notes ++ item v.hand one.entry ∷ [] =
-    sym step.settled ∙ step.entered ∙ ap (λ (xs : List (List ℕ)). xs ++ item v.hand one.entry ∷ []) step.known in
-    let first : IsReply v.caller v.calls p a one.entry = one_reply shape told v u p a one in
+    let one : ServedOne shape told fences v p a u = served.1 in
+    let t : PassState = record v { front = one.from.front } in
+    let its : Answered shape told t (deed_of p.call) a.act (entered_bytes p.call a) u =
+    subst (λ (x : PassState). Answered shape told x (deed_of p.call) a.act (entered_bytes p.call a) u) one.grown.same one.answered in
+    let rest : Went fences history u calls answers w = went shape told fences history u w calls answers begins (omega (arith, long)) served.2 in
+    let step : Steps t (its.entry ∷ []) its.called.more u = its.called.steps in
+    let noted_one : entries_noted u.notes ≡ entries_noted v.notes ++ item v.hand its.entry ∷ [] =
+    sym step.settled ∙ step.entered ∙ ap (λ (xs : List (List ℕ)). xs ++ item v.hand its.entry ∷ []) step.known in
+    let first : IsReply v.caller v.calls p a its.entry = one_reply shape told t u p a its in
+    let last : StandsLast u.front history its.entry = stands_last v.hand u.front history its.entry its.called.stands (prefix_trans u.front w.front history rest.grows begins) in
+    let late : length t.front ≤ its.entry.line.point = All-head (λ (e : Entry). length t.front ≤ e.line.point) its.entry [] its.called.late in
     record {
-      entries = one.entry ∷ rest.entries;
+      entries = its.entry ∷ rest.entries;
       replies = (
         first,
         subst (λ (c : ℕ). AreReplies c (v.calls + 1) calls answers rest.entries) step.caller
-            (subst (λ (n : ℕ). AreReplies u.caller n calls answers rest.entries) one.called.counted rest.replies),
+            (subst (λ (n : ℕ). AreReplies u.caller n calls answers rest.entries) its.called.counted rest.replies),
+      );
+      fenced = (
+        record {
+          begun = le_trans one.begun late;
+          place = last.place;
+          here = last.here;
+          ended = behind last.place (length u.front) (fences (p.phase + 1)) last.last one.ended;
+        },
+        rest.fenced,
       );
       noted = rest.noted
           ∙ ap (λ (h : ℕ). entries_noted u.notes ++ map (item h) rest.entries) step.hand
           ∙ ap (λ (xs : List (List ℕ)). xs ++ map (item v.hand) rest.entries) noted_one
-          ∙ append_assoc (entries_noted v.notes) (item v.hand one.entry ∷ []) (map (item v.hand) rest.entries);
+          ∙ append_assoc (entries_noted v.notes) (item v.hand its.entry ∷ []) (map (item v.hand) rest.entries);
       hand = rest.hand ∙ step.hand;
       spare = rest.spare ∙ step.spare;
-      count = more u.calls v.calls (length calls) w.calls one.called.counted rest.count;
+      count = more u.calls v.calls (length calls) w.calls its.called.counted rest.count;
+      grows = prefix_trans v.front t.front w.front one.grown.longer (prefix_trans t.front u.front w.front step.extends rest.grows);
     }
   where
     more : (b a k d : ℕ) → b ≡ a + 1 → d ≡ b + k → d ≡ a + suc k
     more b a k d p q = omega (arith, p, q)
+
+    behind : (place len fence : ℕ) → place + 1 ≡ len → len ≤ fence → place < fence
+    behind place len fence p q = omega (arith, p, q)
 
 -- ---- the entry of a call by its number
 
@@ -158,6 +199,22 @@ entry_of_call c n (q ∷ calls) (a ∷ answers) (x ∷ entries) (suc k) p are as
     record { answer = rest.answer; entry = rest.entry; given = rest.given; here = rest.here; reply = later_here c n k p rest.answer rest.entry rest.reply }
 entry_of_call c n (q ∷ calls) [] entries k p are asked = absurd are
 entry_of_call c n (q ∷ calls) (a ∷ answers) [] k p are asked = absurd are
+
+-- the entry of a call by its number is fenced
+pub fenced_call : (fences : ℕ → ℕ) (history : List Entry) (c n : ℕ) (calls : List Planned) (answers : List Answer) (entries : List Entry) (k : ℕ) (p : Planned)
+    → AreReplies c n calls answers entries → AreFenced fences history calls entries → slice_get calls k ≡ Some p
+    → (e : Entry) × IsFenced fences history p e × (e.line.caller ≡ c) × (e.line.call ≡ n + k)
+fenced_call fences history c n [] answers entries k p are fenced asked = absurd (none-some p asked)
+fenced_call fences history c n (q ∷ calls) (a ∷ answers) (x ∷ entries) zero p are fenced asked =
+    (x, subst (λ (y : Planned). IsFenced fences history y x) (same_Some q p asked) fenced.0, are.0.caller, are.0.call ∙ sym (add-zero n))
+fenced_call fences history c n (q ∷ calls) (a ∷ answers) (x ∷ entries) (suc k) p are fenced asked =
+    let rest : (e : Entry) × IsFenced fences history p e × (e.line.caller ≡ c) × (e.line.call ≡ n + 1 + k) = fenced_call fences history c (n + 1) calls answers entries k p are.1 fenced.1 asked in
+    (rest.0, rest.1, rest.2, rest.3 ∙ next n k)
+  where
+    next : (a b : ℕ) → a + 1 + b ≡ a + suc b
+    next a b = omega arith
+fenced_call fences history c n (q ∷ calls) [] entries k p are fenced asked = absurd are
+fenced_call fences history c n (q ∷ calls) (a ∷ answers) [] k p are fenced asked = absurd are
 
 -- there are as many answers as calls
 pub as_many : (c n : ℕ) (calls : List Planned) (answers : List Answer) (entries : List Entry) → AreReplies c n calls answers entries → length answers ≡ length calls

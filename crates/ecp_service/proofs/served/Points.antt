@@ -1,5 +1,5 @@
 -- A legal history that has of each caller just the entries of its calls serves the input.
-use Rattle.std.proofs.Common.{◌≡◌, ℕ, ◌<◌, nat_lt, true, List, Option, Some, IsSomeAnd, sym, ◌∙◌, ap, subst, arith}
+use Rattle.std.proofs.Common.{◌≡◌, ℕ, ◌+◌, ◌<◌, ◌≤◌, nat_lt, true, List, Option, Some, IsSomeAnd, sym, ◌∙◌, ap, subst, arith}
 use Rattle.std.specs.Prelude.{slice_get}
 use Rattle.std.specs.Option.{option_map_or}
 use Rattle.std.proofs.lemmas.Bool.{le-ltb, and_parts}
@@ -20,7 +20,7 @@ use Rattle.ecp_history.specs.Spans.{ends, is_of, is_end}
 use Rattle.ecp_service.specs.Asked.{call_at}
 use Rattle.ecp_service.specs.Serves.{IsOfCall, NamesCalls, opened_blocks, part_count, EachComplete, AreInOrder, phase_of, PhasesApart}
 use Rattle.ecp_service.proofs.served.Lists as places
-use Rattle.ecp_service.proofs.served.Entries.{HasCaller, HasCallers, HasEntry, IsTold, has_entry, in_order, no_parts, one_end, its_place, told_at}
+use Rattle.ecp_service.proofs.served.Entries.{HasCaller, HasCallers, HasEntry, HasFenced, IsTold, LiesIn, has_entry, in_order, lies_in, no_parts, one_end, its_place, told_at}
 use Rattle.ecp_service.proofs.served.Fits.{kind_for, parts_none, stored_is}
 use Rattle.ecp_service.proofs.served.Inputs.{IsCall, IsInput}
 use Rattle.ecp_service.proofs.served.Passes.{IsReply}
@@ -75,11 +75,25 @@ module _ (shape : Shape) (content : Content) (answers : ℕ → List Answer) (hi
   pub ordered : AreInOrder history
   ordered i j d e here there session same less = in_order content answers history i j d e all here there session same less
 
-  -- there is one phase, so no entry is of an earlier one
-  no_phase : (j : ℕ) (e : Entry) → slice_get history j ≡ Some e → e.line.caller < MAX_SESSIONS → phase_of content e ≡ 0
-  no_phase j e here session =
-      let told : IsTold content answers history j e = told_at content answers history j e (all j e here session) here in
-      ap (λ (o : Option Planned). option_map_or (λ p. p.phase) o 0) told.asked ∙ (input.calls e.line.caller e.line.call told.planned told.asked).phase
+  -- the phase of an entry is that of its call
+  its_phase : (j : ℕ) (e : Entry) (told : IsTold content answers history j e) → phase_of content e ≡ told.planned.phase
+  its_phase j e told = ap (λ (o : Option Planned). option_map_or (λ p. p.phase) o 0) told.asked
 
-  pub phases_apart : PhasesApart content history
-  phases_apart i j d e here there first second less = absurd (let none : phase_of content e ≡ 0 = no_phase j e there second in omega (arith, less, none))
+  pub phases_apart : (fences : ℕ → ℕ) → ((a b : ℕ) → a ≤ b → fences a ≤ fences b)
+      → ((i : ℕ) (e : Entry) → slice_get history i ≡ Some e → e.line.caller < MAX_SESSIONS → HasFenced content answers fences history e.line.caller)
+      → PhasesApart content history
+  phases_apart fences rising fenced i j d e here there first second less =
+      let one : IsTold content answers history i d = told_at content answers history i d (all i d here first) here in
+      let other : IsTold content answers history j e = told_at content answers history j e (all j e there second) there in
+      let earlier : LiesIn fences one.planned.phase i d = lies_in content answers fences history i d one.planned all (fenced i d here first) first here one.asked in
+      let later : LiesIn fences other.planned.phase j e = lies_in content answers fences history j e other.planned all (fenced j e there second) second there other.asked in
+      between i (fences (one.planned.phase + 1)) (fences other.planned.phase) e.line.point earlier.ended
+      (rising (one.planned.phase + 1) other.planned.phase (next one.planned.phase other.planned.phase
+      (subst (λ (k : ℕ). k < other.planned.phase) (its_phase i d one) (subst (λ (k : ℕ). phase_of content d < k) (its_phase j e other) less))))
+      later.begun
+    where
+      between : (a b c d : ℕ) → a < b → b ≤ c → c ≤ d → a < d
+      between a b c d p q r = omega (arith, p, q, r)
+
+      next : (a b : ℕ) → a < b → a + 1 ≤ b
+      next a b p = omega (arith, p)

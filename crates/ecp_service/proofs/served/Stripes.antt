@@ -5,6 +5,7 @@ use Rattle.std.proofs.lemmas.Bool.{cases_lt}
 use Rattle.std.proofs.lemmas.List.Folds.{list_any_at}
 use Rattle.std.proofs.lemmas.List.Sums.{sum_by-append, sum_by-cons}
 use Rattle.std.proofs.lemmas.Option.{get_or_from_slice_get, slice_get_within}
+use Rattle.ecp_book.specs.Logs.{Log}
 use Rattle.ecp_cluster.specs.declared.answer.Answer.{Answer}
 use Rattle.ecp_command.specs.Input.Accepted.{Content}
 use Rattle.ecp_command.specs.Input.Calls.{SessionCalls}
@@ -109,9 +110,9 @@ module _ (shape : Shape) (content : Content) (answers : ℕ → List Answer) (hi
 
 -- ---- each call that a pass counted has its end
 
-pub has_ended : (spares c : ℕ) (content : Content) (answers : ℕ → List Answer) (history : List Entry) (w : PassState) → IsInput content → HasCallers content answers history
-    → Went (first_pass spares c) (calls_in content c) (answers c) w → (c < MAX_SESSIONS → HasCaller content answers history c) → HasEnded spares c history w
-has_ended spares c content answers history w input all went has = record {
+pub has_ended : (fences : ℕ → ℕ) (log : Log) (spares c : ℕ) (content : Content) (answers : ℕ → List Answer) (history : List Entry) (w : PassState) → IsInput content → HasCallers content answers history
+    → Went fences log (first_pass spares c) (calls_in content c) (answers c) w → (c < MAX_SESSIONS → HasCaller content answers history c) → HasEnded spares c history w
+has_ended fences log spares c content answers history w input all went has = record {
   own = went.hand;
   ended = λ n lt.
       let within : n < length (calls_in content c) = subst (λ (k : ℕ). n < k) (went.count ∙ zero-add (length (calls_in content c))) lt in

@@ -14,6 +14,7 @@ use ecp_helper::Gate;
 use ecp_store::{Sink, Source, Store};
 use std::alloc::Global;
 use std::sync::Wait;
+use std::thread::Threads;
 
 /// Reads the input to its end as a head and a script, serves the calls of the script over the first of these stores, as many as
 /// the head has nodes, and writes their replies and the journal. Answers the status of the program, and gives the stores back,
@@ -28,7 +29,14 @@ use std::sync::Wait;
 /// - 8: the input has more than 16 MiB.
 ///
 /// With 3, 4, 5, 7 and 8 nothing went to `out`, and `diag` has one line that says why.
-pub(crate) fn run<R: Source, W: Sink, E: Sink, S: Store + Drop, G: Gate + Drop, T: Wait>(
+pub(crate) fn run<
+    R: Source,
+    W: Sink,
+    E: Sink,
+    S: Store + Drop + Send,
+    G: Gate + Drop + Sync,
+    T: Threads + Wait + Sync,
+>(
     rt: &T,
     alloc: Global,
     input: &mut R,

@@ -16,6 +16,7 @@ use ecp_helper::Gate;
 use ecp_store::{Sink, Source, Store};
 use std::alloc::Global;
 use std::sync::Wait;
+use std::thread::Threads;
 
 /// Runs the command that the words ask for, on this input and over these stores, of which a run uses the first, as many as its
 /// head has nodes. Answers the status of the program, and gives the stores back, in their order:
@@ -31,7 +32,14 @@ use std::sync::Wait;
 ///
 /// With 2, 3, 4, 5, 7 and 8 nothing went to `out`, and `diag` has one line that says why. The gate is asked before a helper
 /// adds its part to a slice; an open one lets each pass. A run may wait for a lock.
-pub fn top<R: Source, W: Sink, E: Sink, S: Store + Drop, G: Gate, T: Wait>(
+pub fn top<
+    R: Source,
+    W: Sink,
+    E: Sink,
+    S: Store + Drop + Send,
+    G: Gate + Sync,
+    T: Threads + Wait + Sync,
+>(
     rt: &T,
     alloc: Global,
     words: &[String],

@@ -1,8 +1,10 @@
 //! The calls of a session, one after another.
-ghost use Rattle.std.specs.Prelude.{◌≡◌, [], IfOk};
+ghost use Rattle.std.specs.Prelude.{◌≡◌, ◌≤◌, [], IfOk, OnOk, length, vec_capacity};
+ghost use mathlib.Core.List.{IsPrefix};
 ghost use Rattle.ecp_cluster.specs.Answered.{Answered};
 ghost use Rattle.ecp_service.specs.Asked.{deed_of};
-ghost use Rattle.ecp_service.specs.Served.{Served, entered_bytes};
+ghost use Rattle.ecp_service.specs.Callers.{ServedNext};
+ghost use Rattle.ecp_service.specs.Served.{entered_bytes};
 ghost use Rattle.ecp_service.specs.Servable.{EachServable, IsServable};
 
 use ecp_book::Names;
@@ -14,22 +16,30 @@ use ecp_store::{Block, NoMemory, Store};
 use std::alloc::Global;
 use std::sync::Wait;
 
-/// Serves these calls by the pass of their session, and gives their answers. Room for those is taken before the first call.
-pub(super) fn serve_calls<N: Names, S: Store + Drop, G: Gate, R: Wait>(
+/// Serves the next of these calls, as long as they are of this phase. The first of them have these answers, and there is room
+/// for those of all.
+pub(super) fn serve_next<N: Names, S: Store + Drop, G: Gate, R: Wait>(
     rt: &R,
     alloc: Global,
     service: &Service<N, S, G>,
     pass: &mut Pass<N>,
-    calls: Vec<Planned>,
-) -> Result<Vec<Answer>, NoMemory>
-    requires { EachServable calls.items }
-    ensures { IfOk result (λ answers. Served N.shape N.told pass.old calls.items answers.items pass.new) }
+    calls: &[Planned],
+    answers: &mut Vec<Answer>,
+    phase: u32,
+) -> Result<(), NoMemory>
+    requires room { length calls.now ≤ vec_capacity answers.old }
+    requires servable { EachServable calls.now }
+    ensures served { OnOk result (ServedNext N.shape N.told phase calls.now answers.old.items pass.old answers.new.items pass.new) }
+    ensures grows { IsPrefix pass.old.front pass.new.front }
+    ensures room { vec_capacity answers.new ≡ vec_capacity answers.old }
 {
-    let mut answers = Vec::with_capacity(alloc, calls.len())?;
-    for planned in calls {
-        answers.push_reserved(serve(rt, alloc, service, pass, planned.call)?);
+    while let Some(planned) = calls.get(answers.len()) {
+        if planned.phase != phase {
+            break;
+        }
+        answers.push_reserved(serve(rt, alloc, service, pass, &planned.call)?);
     }
-    Ok(answers)
+    Ok(())
 }
 
 /// Serves a call, and gives its answer.
@@ -38,19 +48,20 @@ fn serve<N: Names, S: Store + Drop, G: Gate, R: Wait>(
     alloc: Global,
     service: &Service<N, S, G>,
     pass: &mut Pass<N>,
-    call: Call,
+    call: &Call,
 ) -> Result<Answer, NoMemory>
-    requires { IsServable call }
-    ensures { IfOk result (λ a. Answered N.shape N.told pass.old (deed_of call) a.act (entered_bytes call a) pass.new) }
+    requires { IsServable call.now }
+    ensures answered { IfOk result (λ a. Answered N.shape N.told pass.old (deed_of call.now) a.act (entered_bytes call.now a) pass.new) }
+    ensures grows { IsPrefix pass.old.front pass.new.front }
 {
     match call {
         Call::Put { name, bytes } => {
             let act = service.put(rt, pass, name.as_str(), bytes.bytes())?;
             Ok(without_bytes(alloc, act))
         }
-        Call::Read { name, index } => service.read(rt, pass, name.as_str(), index),
+        Call::Read { name, index } => service.read(rt, pass, name.as_str(), *index),
         Call::Lose { node } => {
-            let act = service.lose(rt, pass, node)?;
+            let act = service.lose(rt, pass, *node)?;
             Ok(without_bytes(alloc, act))
         }
         Call::Sum { .. }

@@ -3,7 +3,7 @@ use super::*;
 use ecp_store::Store;
 
 /// A script, what it leaves, and the bytes that the stores of the first three nodes served.
-fn served<R: Abort + Wait>(
+fn served<R: Abort + Threads + Wait + Sync>(
     rt: &R,
     alloc: Global,
     head: &'static [u8],

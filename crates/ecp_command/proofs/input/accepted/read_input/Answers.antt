@@ -2,7 +2,7 @@ use Rattle.std.proofs.Common.{subst, List}
 use Rattle.std.proofs.lemmas.Result.{err_from_is_err_and}
 use Rattle.ecp_command.specs.declared.input.numbered.Numbered.{Numbered}
 use Rattle.ecp_command.specs.Input.Costs.{IsOver}
-use Rattle.ecp_command.proofs.Inputs.Gathering.{are_sessions}
+use Rattle.ecp_command.proofs.Inputs.Gathering.{are_sessions, few_forms}
 use Rattle.ecp_command.proofs.Inputs.Joined.{head_refuses, cost_refuses}
 use Rattle.ecp_command.proofs.input.accepted.read_input.Goals as goal
 
@@ -17,4 +17,7 @@ returns-in-Some-line_over-clause-refused c =
     (subst (λ (ns : List Numbered). IsOver ns c.in-Some-line_over.line) c.deref.ensures.value c.in-Some-line_over.ensures.over)
 
 pub sessions_with_calls-requires : goal.sessions_with_calls-requires
-sessions_with_calls-requires c = are_sessions _ c.in_ok-script.script.forms.items c.in_ok-script.ensures.read.read.spelled
+sessions_with_calls-requires c = record {
+  sessions = are_sessions _ c.in_ok-script.script.forms.items c.in_ok-script.ensures.read.read.spelled;
+  few = few_forms c.in_ok-script.script.forms.items c.in_ok-script.ensures.read.totals.keep.lines;
+}

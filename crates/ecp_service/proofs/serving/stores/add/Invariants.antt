@@ -1,4 +1,4 @@
-use Rattle.std.proofs.Common.{◌≡◌, ◌≤◌, ◌+◌, ◌++◌, take, length, vec_len, vec_capacity}
+use Rattle.std.proofs.Common.{◌≡◌, ◌++◌, vec_capacity}
 use Rattle.ecp_service.proofs.serving.stores.add.Given as goal
 
 -- those so far stand behind the others, in the room that there is for all
