@@ -21,7 +21,7 @@ use Rattle.ecp_plan.specs.declared.live_row.LiveRow.{LiveRow}
 use Rattle.ecp_catalog.specs.Standing.{FileSeen, is_up_in, standing, live_among}
 use Rattle.ecp_catalog.specs.Catalogs.{NodeSeen, uncounted, live_of, CountsRows}
 use Rattle.ecp_catalog.proofs.NodeLaws.{changed_at-set, at-changed_same, at-changed_other, node-uncounted, length-uncounted}
-use Rattle.ecp_catalog.specs.Catalogs.{changed_at}
+use Rattle.ecp_catalog.specs.Catalogs.{changed_at, counted}
 use Rattle.ecp_catalog.proofs.LossLaws.{enumerate-more}
 
 -- one live row more, behind the others
@@ -44,10 +44,6 @@ live_among-more xs y =
 -- 1 where it is so
 abbrev bit : Bool → ℕ
 bit b = cond b 1 0
-
--- one block more on a node
-abbrev pub counted : NodeSeen → NodeSeen
-counted x = record { node = x.node; live = x.live + 1; losses = x.losses; spare = x.spare }
 
 -- the node of a row that stands live is there
 pub live-within : (nodes : List Node) (x : ReceiptState) → (standing nodes x).live ≡ true → x.node < length nodes
@@ -138,6 +134,20 @@ fits shape old f live in_range few full most =
     let whole : stripes_stored (f ∷ old) ≡ f.file.stripes + stripes_stored old = sum_by-cons (λ (x : FileSeen). x.file.stripes) f old in
     let rows : (f.file.stripes + stripes_stored old) * shape.n ≤ END_OF_STRIPES * shape.n = mul-le-mul_right shape.n (omega (arith, whole, most)) in
     omega (arith, rows, full, few, in_range.at_most)
+
+-- as many rows as the stripe numbers allow are counted in 32 bits
+pub rows-fit : (shape : Shape) (files : List FileSeen) → IsInRange shape → stripes_stored files ≤ END_OF_STRIPES → rows_stored shape files < 2 ^ 32
+rows-fit shape files in_range most =
+    let rows : stripes_stored files * shape.n ≤ END_OF_STRIPES * shape.n = mul-le-mul_right shape.n most in
+    omega (arith, rows, in_range.at_most)
+
+-- the live blocks of the node that is read
+pub live-read : (nodes : List NodeSeen) (m : ℕ) (y : NodeSeen) → m < length nodes → y ≡ get_or nodes m y → live_of nodes m ≡ y.live
+live-read nodes m y h is = ap (λ (o : Option NodeSeen). option_map_or (λ x. x.live) o 0) (slice_get-get_or nodes m y h ∙ ap (λ (z : NodeSeen). Some z) (sym is))
+
+-- one block more on a node, and no more than there are
+pub few-counted : (nodes : List NodeSeen) (m most : ℕ) (y : NodeSeen) → y.live < most → All (λ x. x.live ≤ most) nodes → All (λ x. x.live ≤ most) (set nodes m (counted y))
+few-counted nodes m most y room few = All-set (λ (x : NodeSeen). x.live ≤ most) nodes m (counted y) (omega (arith, room)) few
 
 -- no more are live than were, and these rows
 pub few-more : (old new : List NodeSeen) (rows : List ReceiptState) (most : ℕ) → CountsRows old new rows → All (λ x. x.live ≤ most) old → All (λ x. x.live ≤ most + length rows) new

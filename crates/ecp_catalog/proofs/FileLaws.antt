@@ -1,16 +1,17 @@
 -- The files of a catalog: what names and spans lead to, and one file more.
-use Rattle.std.proofs.Common.{◌≡◌, ℕ, zero, suc, ◌+◌, ◌-◌, ◌*◌, ◌<◌, ◌≤◌, Bool, true, false, cond, List, [], ◌∷◌, ◌++◌, length, reverse, get_or, slice_get, find, Option, Some, None, refl, sym, ◌∙◌, ap, subst, arith, length-append, take, drop, IsSome, add_comm}
+use Rattle.std.proofs.Common.{◌≡◌, ℕ, zero, suc, ◌+◌, ◌-◌, ◌*◌, ◌<◌, ◌≤◌, ◌⊎◌, inl, inr, Bool, true, false, cond, List, [], ◌∷◌, ◌++◌, length, reverse, get_or, slice_get, find, Option, Some, None, refl, sym, ◌∙◌, ap, subst, arith, length-append, take, drop, IsSome, add_comm}
 use Rattle.std.specs.Prelude.{All, nat_le, nat_lt, bytes_eq, option_and_then, option_map, MatchOption, ⊤}
 use Rattle.std.specs.List.{AllByRecursion}
-use Rattle.std.specs.Option.{option_map_or}
+use Rattle.std.specs.Option.{option_map_or, option_or}
 use Rattle.ecp_node.specs.Receipts.{ReceiptState}
 use Rattle.std.proofs.lemmas.Bool.{and_parts, leb-true, ltb-true, false≢true}
 use Rattle.std.proofs.lemmas.List.{reverse-append, get_or_default}
 use Rattle.std.proofs.lemmas.List.Elements.{All-push, All-weaker, recursion_from_All}
+use Rattle.std.proofs.lemmas.List.Folds.{find-append}
 use Rattle.std.proofs.lemmas.List.Sums.{sum_by-cons}
-use Rattle.std.proofs.lemmas.Option.{MatchOption-at_some, slice_get_read, slice_get-get_or}
+use Rattle.std.proofs.lemmas.Option.{MatchOption-at_some, same_Some, slice_get_read, slice_get-get_or}
 use Rattle.ecp_shape.specs.declared.shape.Shape.{Shape}
-use Rattle.ecp_history.proofs.LegalLaws.{get_before, get_last}
+use Rattle.ecp_history.proofs.LegalLaws.{get_before, get_last, get_split}
 use Rattle.ecp_catalog.specs.declared.limits.TheConstants.{END_OF_STRIPES}
 use Rattle.ecp_catalog.specs.declared.span.Span.{Span}
 use Rattle.ecp_catalog.specs.Standing.{FileSeen, has_number, file_with, rows_in, receipts_in}
@@ -123,6 +124,12 @@ rows-room shape s f has kept =
 pub starts-by : (s : ℕ) (f : FileSeen) → has_number s f ≡ true → f.file.first ≤ s
 starts-by s f has = leb-true f.file.first s (and_parts (nat_le f.file.first s) (nat_lt s (f.file.first + f.file.stripes)) has).0
 
+-- a receipt that is there has a number below the length
+pub some-within : (xs : List ReceiptState) (k : ℕ) → IsSome (slice_get xs k) → k < length xs
+some-within [] k is = absurd (false≢true is)
+some-within (x ∷ xs) zero is = omega arith
+some-within (x ∷ xs) (suc k) is = omega (arith, some-within xs k is)
+
 -- where a row stands among those of its file
 pub receipt-at : (shape : Shape) (s r : ℕ) (files : List FileSeen) (f : FileSeen) → file_with files s ≡ Some f → has_number s f ≡ true → IsFile shape f → IsSome (slice_get (receipts_in shape.n files s) r)
     → ((s - f.file.first) * shape.n + r < length f.rows) × (slice_get (receipts_in shape.n files s) r ≡ slice_get f.rows ((s - f.file.first) * shape.n + r))
@@ -136,11 +143,49 @@ receipt-at shape s r files f found has kept there =
       omega (arith, within, kept.full, room_for (s - f.file.first) f.file.stripes shape.n low),
       ap (λ (xs : List ReceiptState). slice_get xs r) rows ∙ get-chunk (s - f.file.first) f.file.stripes shape.n r f.rows low kept.full within,
     )
+
+-- ---- which file has a number
+
+pub reverse-cons : (f : FileSeen) (files : List FileSeen) → reverse (f ∷ files) ≡ reverse files ++ f ∷ []
+reverse-cons f files = reverse-append (f ∷ []) files
+
+-- the newest that has it, where one older file is there too
+found-older : (s : ℕ) (f : FileSeen) (files : List FileSeen) → file_with (reverse (f ∷ files)) s ≡ option_or (file_with (reverse files) s) (file_with (f ∷ []) s)
+found-older s f files = ap (find (has_number s)) (reverse-cons f files) ∙ find-append (has_number s) (reverse files) (f ∷ [])
+
+-- where none has it, none is found
+pub find-none : (s : ℕ) (files : List FileSeen) → ((i : ℕ) (f : FileSeen) → slice_get files i ≡ Some f → has_number s f ≡ false) → file_with (reverse files) s ≡ None
+find-none s [] none = refl
+find-none s (f ∷ files) none =
+    found-older s f files ∙ ap (λ (o : Option FileSeen). option_or o (file_with (f ∷ []) s)) (find-none s files (λ i g at. none (suc i) g at)) ∙ rw (none 0 f refl) refl
+
+-- and the other way round
+pub none-has : (s : ℕ) (files : List FileSeen) (i : ℕ) (f : FileSeen) → file_with (reverse files) s ≡ None → slice_get files i ≡ Some f → has_number s f ≡ false
+none-has s [] i f none at = cc
+none-has s (g ∷ files) i f none at = by (file_with (reverse files) s) (has_number s g) refl (sym (found-older s g files) ∙ none) i at (λ k older is. none-has s files k f older is) where
+  by : (o : Option FileSeen) (b : Bool) → has_number s g ≡ b → option_or o (cond b (Some g) None) ≡ None
+      → (k : ℕ) → slice_get (g ∷ files) k ≡ Some f → ((j : ℕ) → o ≡ None → slice_get files j ≡ Some f → has_number s f ≡ false) → has_number s f ≡ false
+  by (Some h) b own all k is more = cc
+  by None true own all k is more = cc
+  by None false own all zero is more =
+      let same : g ≡ f = same_Some g f is in
+      subst (λ (h : FileSeen). has_number s h ≡ false) same own
+  by None false own all (suc k) is more = more k refl is
+
+-- where one alone has it, that one is found
+pub find-alone : (s : ℕ) (files : List FileSeen) (i : ℕ) (f : FileSeen) → slice_get files i ≡ Some f → has_number s f ≡ true
+    → ((j : ℕ) (g : FileSeen) → slice_get files j ≡ Some g → has_number s g ≡ true → j ≡ i) → file_with (reverse files) s ≡ Some f
+find-alone s [] i f at has alone = cc
+find-alone s (h ∷ files) zero f at has alone =
+    let same : h ≡ f = same_Some h f at in
+    found-older s h files ∙ ap (λ (o : Option FileSeen). option_or o (file_with (h ∷ []) s)) (find-none s files (λ j g is. off j g is (has_number s g) refl))
+    ∙ subst (λ (g : FileSeen). option_or None (file_with (g ∷ []) s) ≡ Some f) (sym same) (rw has refl)
   where
-    some-within : (xs : List ReceiptState) (k : ℕ) → IsSome (slice_get xs k) → k < length xs
-    some-within [] k is = absurd (false≢true is)
-    some-within (x ∷ xs) zero is = omega arith
-    some-within (x ∷ xs) (suc k) is = omega (arith, some-within xs k is)
+    off : (j : ℕ) (g : FileSeen) → slice_get files j ≡ Some g → (b : Bool) → has_number s g ≡ b → b ≡ false
+    off j g is false own = refl
+    off j g is true own = absurd (omega (arith, alone (suc j) g is own))
+find-alone s (h ∷ files) (suc i) f at has alone =
+    found-older s h files ∙ ap (λ (o : Option FileSeen). option_or o (file_with (h ∷ []) s)) (find-alone s files i f at has (λ j g is own. omega (arith, alone (suc j) g is own)))
 
 -- ---- one file more
 
@@ -151,8 +196,8 @@ pub files-more : (shape : Shape) (files : List FileSeen) (f : FileSeen) (led mor
     → ((q : List ℕ) → more q ≡ cond (bytes_eq f.file.name q) (Some (length files)) (led q))
     → ((s : ℕ) → find (covers s) put ≡ cond (has_number s f) (Some (span_of f.file (length files))) (find (covers s) spans))
     → IsSpread 0 END_OF_STRIPES put → ((n : ℕ) → length files < n → All (λ x. x.file < n) spans → All (λ x. x.file < n) put) → spanned put ≡ spanned spans + f.file.stripes
-    → AreFiles shape (files ++ f ∷ []) more put
-files-more shape files f led more spans put are kept leads found spread known total = record {
+    → ((s : ℕ) → has_number s f ≡ true → file_with (reverse files) s ≡ None) → AreFiles shape (files ++ f ∷ []) more put
+files-more shape files f led more spans put are kept leads found spread known total fresh = record {
   in_range = are.in_range;
   each = All-push (IsFile shape) files f are.each kept;
   named = λ q.
@@ -162,12 +207,25 @@ files-more shape files f led more spans put are kept leads found spread known to
   numbered = λ s.
       ap (λ (fs : List FileSeen). file_with fs s) (newest-first files f) ∙ number (has_number s f) s (find (covers s) spans) refl (are.numbered s)
       ∙ sym (ap (file_at (files ++ f ∷ [])) (found s));
+  apart = λ i j s g h at_i at_j has_i has_j. still_apart i j s g h (get_split files f i g at_i) (get_split files f j h at_j) has_i has_j;
   known = known (length (files ++ f ∷ [])) (omega (arith, longer)) (All-weaker (λ (x : Span). x.file < length files) (λ x. x.file < length (files ++ f ∷ [])) (λ x h. omega (arith, h, longer)) spans are.known);
   spread = spread;
   all = ap stripes_stored (newest-first files f) ∙ sum_by-cons (λ (x : FileSeen). x.file.stripes) f (reverse files)
       ∙ ap (λ (n : ℕ). f.file.stripes + n) are.all ∙ add_comm f.file.stripes (spanned spans) ∙ sym total;
 }
   where
+    never : (j s : ℕ) (g h : FileSeen) → slice_get files j ≡ Some g → has_number s g ≡ true → f ≡ h → has_number s h ≡ true → ⊥
+    never j s g h at has_g is has_h =
+        let own : has_number s f ≡ true = subst (λ (x : FileSeen). has_number s x ≡ true) (sym is) has_h in
+        false≢true (sym (none-has s files j g (fresh s own) at) ∙ has_g)
+
+    still_apart : (i j s : ℕ) (g h : FileSeen) → (slice_get files i ≡ Some g) ⊎ ((i ≡ length files) × (f ≡ g)) → (slice_get files j ≡ Some h) ⊎ ((j ≡ length files) × (f ≡ h))
+        → has_number s g ≡ true → has_number s h ≡ true → i ≡ j
+    still_apart i j s g h (inl at_i) (inl at_j) has_g has_h = are.apart i j s g h at_i at_j has_g has_h
+    still_apart i j s g h (inl at_i) (inr last) has_g has_h = absurd (never i s g h at_i has_g last.1 has_h)
+    still_apart i j s g h (inr last) (inl at_j) has_g has_h = absurd (never j s h g at_j has_h last.1 has_g)
+    still_apart i j s g h (inr one) (inr other) has_g has_h = one.0 ∙ sym other.0
+
     longer : length (files ++ f ∷ []) ≡ length files + 1
     longer = length-append files (f ∷ [])
 

@@ -10,3 +10,6 @@ pub mod LossLaws
 pub mod OutlineLaws
 pub mod AnswerLaws
 pub mod StoredLaws
+pub mod JoinLaws
+pub mod ReplaceLaws
+pub mod RestoreLaws

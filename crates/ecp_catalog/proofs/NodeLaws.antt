@@ -1,11 +1,12 @@
 -- The nodes of a catalog, as one of them changes.
-use Rattle.std.proofs.Common.{◌≡◌, ℕ, zero, suc, ◌<◌, ◌==◌, Bool, true, false, cond, List, [], ◌∷◌, length, map, replicate, set, slice_get, get_or, Option, Some, Result, Ok, Err, OnOk, refl, sym, ◌∙◌, ap, arith, ◌≤◌, max}
+use Rattle.std.proofs.Common.{◌≡◌, ℕ, zero, suc, ◌+◌, ◌<◌, ◌==◌, ◌&&◌, Bool, true, false, cond, List, [], ◌∷◌, length, map, replicate, set, slice_get, get_or, Option, Some, Result, Ok, Err, OnOk, refl, sym, ◌∙◌, ap, arith, ◌≤◌, max}
 use Rattle.std.specs.Option.{option_map_or}
 use Rattle.std.proofs.lemmas.Option.{slice_get-get_or}
+use Rattle.std.proofs.lemmas.Bool.{ne_eqb}
 use Rattle.std.proofs.lemmas.Bool.Decides.{nat_tests}
 use Rattle.ecp_history.specs.declared.table.node.Node.{Node}
 use Rattle.ecp_catalog.specs.Standing.{is_up_in}
-use Rattle.ecp_catalog.specs.Catalogs.{NodeSeen, new_node, changed_at, lost_at, with_spare, spare_of, uncounted}
+use Rattle.ecp_catalog.specs.Catalogs.{NodeSeen, new_node, changed_at, joined_node, lost_at, with_spare, spare_of, uncounted}
 
 -- what the nodes are at the start
 pub map-new : (n : ℕ) → map (λ (x : NodeSeen). x.node) (replicate n new_node) ≡ replicate n (record { up = true; inc = 0 })
@@ -85,6 +86,40 @@ up_in-set inc (x ∷ xs) (suc m) (suc i) d down =
     both_tests : (b : Bool) → i == m ≡ b → suc i == suc m ≡ i == m
     both_tests true is = grind (arith, nat_tests)
     both_tests false is = grind (arith, nat_tests)
+
+-- a node that came up, as a plain table has it
+pub map-joined_node : (m : ℕ) (xs : List NodeSeen) → map (λ x. x.node) (changed_at joined_node m xs)
+    ≡ set (map (λ x. x.node) xs) m (record { up = true; inc = option_map_or (λ y. y.inc) (slice_get (map (λ x. x.node) xs) m) 0 + 1 })
+map-joined_node m [] = refl
+map-joined_node zero (x ∷ xs) = refl
+map-joined_node (suc m) (x ∷ xs) = ap (λ (ns : List Node). x.node ∷ ns) (map-joined_node m xs)
+
+-- the incarnation of a node, where these are the nodes
+abbrev pub inc_at : List Node → ℕ → ℕ
+inc_at nodes m = option_map_or (λ x. x.inc) (slice_get nodes m) 0
+
+-- no incarnation falls where a node is changed and its own does not
+pub inc-set : (xs : List Node) (m i : ℕ) (d : Node) → inc_at xs m ≤ d.inc → inc_at xs i ≤ inc_at (set xs m d) i
+inc-set [] m i d rises = omega arith
+inc-set (x ∷ xs) zero zero d rises = rises
+inc-set (x ∷ xs) zero (suc i) d rises = omega arith
+inc-set (x ∷ xs) (suc m) zero d rises = omega arith
+inc-set (x ∷ xs) (suc m) (suc i) d rises = inc-set xs m i d rises
+
+-- a node that was down and is in a later incarnation: none up to the one that it had is up
+pub up_in-later : (inc : ℕ) (xs : List Node) (m i : ℕ) (d : Node) → option_map_or (λ x. x.up) (slice_get xs m) false ≡ false → inc_at xs m < d.inc → inc ≤ inc_at xs i
+    → option_map_or (is_up_in inc) (slice_get (set xs m d) i) false ≡ option_map_or (is_up_in inc) (slice_get xs i) false
+up_in-later inc [] m i d down later past = refl
+up_in-later inc (x ∷ xs) zero zero d down later past =
+    let other : d.inc == inc ≡ false = ne_eqb d.inc inc (λ same. omega (arith, same, later, past)) in
+    rw (other, down) (none d.up)
+  where
+    none : (b : Bool) → (b && false) ≡ false
+    none true = refl
+    none false = refl
+up_in-later inc (x ∷ xs) zero (suc i) d down later past = refl
+up_in-later inc (x ∷ xs) (suc m) zero d down later past = refl
+up_in-later inc (x ∷ xs) (suc m) (suc i) d down later past = up_in-later inc xs m i d down later past
 
 -- nodes that differ in their counts alone
 pub node-uncounted : (xs : List NodeSeen) → map (λ x. x.node) xs ≡ map (λ x. x.node) (map uncounted xs)

@@ -24,7 +24,7 @@ use Rattle.ecp_history.proofs.LossLaws.{stays_lost}
 use Rattle.ecp_catalog.specs.Standing.{FileSeen, standing, is_up_in}
 use Rattle.ecp_catalog.specs.Catalogs.{NodeSeen, CatalogState, new_node, empty, changed_at, lost_at, with_spare, live_of, losses_of, receipts_of, first_loss}
 use Rattle.ecp_catalog.specs.Outline.{loss_positions, IsReceiptOf, IsOutlineOf, IsOutline, changes}
-use Rattle.ecp_catalog.proofs.NodeLaws.{map-new, at-new, map-changed_at, at-changed_at, at-changed_same, at-changed_other, length-changed_at, map-lost_at, up_in-set}
+use Rattle.ecp_catalog.proofs.NodeLaws.{map-new, at-new, map-changed_at, at-changed_at, at-changed_same, at-changed_other, length-changed_at, map-lost_at, inc_at, inc-set, up_in-set}
 use Rattle.ecp_catalog.proofs.LossLaws.{places-more, places-below, first_place}
 
 -- ---- the start
@@ -37,6 +37,7 @@ at_start shape told = record {
   stripes = λ s. refl;
   rows = λ s. refl;
   receipts = λ s r x is. cc;
+  past = λ s r x is. cc;
   live = λ m h. at-new (λ x. x.live) 0 refl shape.nodes m;
   losses = λ m h. at-new (λ x. x.losses) [] refl shape.nodes m;
 }
@@ -57,6 +58,7 @@ other_room shape told t lost s files nodes names more room other is = record {
   stripes = is.stripes;
   rows = is.rows;
   receipts = is.receipts;
+  past = is.past;
   live = is.live;
   losses = is.losses;
 }
@@ -82,6 +84,7 @@ other_nodes shape told t lost c nodes is plain_nodes size live losses = record {
   stripes = is.stripes;
   rows = λ s. ap (λ (ns : List Node). map (standing ns) (receipts_of c s)) plain_nodes ∙ is.rows s;
   receipts = is.receipts;
+  past = is.past;
   live = λ m h. live m ∙ is.live m (subst (λ (n : ℕ). m < n) size h);
   losses = λ m h. losses m ∙ is.losses m (subst (λ (n : ℕ). m < n) size h);
 }
@@ -130,6 +133,7 @@ onto shape told c t u lost more is table positions =
       stripes = here.stripes;
       rows = here.rows;
       receipts = here.receipts;
+      past = here.past;
       live = here.live;
       losses = λ m h. here.losses m h ∙ sym (positions m);
     }
@@ -159,11 +163,11 @@ find-with_rows change s (x ∷ xs) = one (x.number == s) (find-with_rows change 
 
 module _ (change : Stripe → List Standing) where
   -- what a look-up of a stripe gives where its rows are changed
-  there : (o : Option Stripe) → is_some (option_map (changed change) o) ≡ is_some o
+  pub there : (o : Option Stripe) → is_some (option_map (changed change) o) ≡ is_some o
   there None = refl
   there (Some x) = refl
 
-  blocks : (o : Option Stripe) → option_map_or (λ (x : Stripe). x.blocks) (option_map (changed change) o) [] ≡ option_map_or (λ x. x.blocks) o []
+  pub blocks : (o : Option Stripe) → option_map_or (λ (x : Stripe). x.blocks) (option_map (changed change) o) [] ≡ option_map_or (λ x. x.blocks) o []
   blocks None = refl
   blocks (Some x) = refl
 
@@ -254,6 +258,7 @@ lost_outline shape told c history e m is loses =
     let nodes : List NodeSeen = changed_at (lost_at p) m c.nodes in
     let change : Stripe → List Standing = λ x. map (without_node m) x.rows in
     let d : Node = record { up = false; inc = option_map_or (λ y. y.inc) (slice_get old m) 0 } in
+    let lost_one : Node = record { up = false; inc = inc_at t.nodes m } in
     let size : length nodes ≡ length c.nodes = length-changed_at (lost_at p) m c.nodes in
     let table : table_of shape (history ++ e ∷ []) ≡ lost t m = one_more shape history e ∙ is_lost e.line.act e.deed m loses shape t e refl in
     let found : (s : ℕ) → find (λ x. x.number == s) (with_rows change t.stripes) ≡ option_map (changed change) (stripe_of t s) =
@@ -270,6 +275,7 @@ lost_outline shape told c history e m is loses =
           ∙ ap (map (without_node m)) (is.rows s) ∙ sym (ap (λ (o : Option Stripe). option_map_or (λ x. x.rows) o []) (found s) ∙ rows-lost m (stripe_of t s));
       receipts = λ s r x h.
           same_receipt shape told t (lost t m) s r x (ap (λ (o : Option Stripe). option_map_or (λ x. x.blocks) o []) (found s) ∙ blocks change (stripe_of t s)) (is.receipts s r x h);
+      past = λ s r x h. omega (arith, is.past s r x h, inc-set t.nodes m x.node lost_one (omega arith));
       live = λ i h. elim (cases_eq i m) [
         | inl same ↦
             let here : m < length c.nodes = omega (arith, h, size, same) in

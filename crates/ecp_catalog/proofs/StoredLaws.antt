@@ -23,7 +23,7 @@ use Rattle.ecp_history.specs.table.Placement.{nodes_in, place_among}
 use Rattle.ecp_history.specs.declared.table.file.File.{File}
 use Rattle.ecp_history.specs.declared.table.node.Node.{Node}
 use Rattle.ecp_history.specs.declared.table.standing.Standing.{Standing}
-use Rattle.ecp_history.specs.table.Tables.{Stripe, PlainTable, stripe_of, rows_of, data_of, live_on, stands_live}
+use Rattle.ecp_history.specs.table.Tables.{Stripe, PlainTable, stripe_of, rows_of, data_of, live_on, stands_live, inc_of}
 use Rattle.ecp_history.specs.table.Steps.{rows_among, stripes_among, placed, stored, after_act, table_of, table_at}
 use Rattle.ecp_history.proofs.StripeLaws.{stored_by}
 use Rattle.ecp_history.proofs.tables.StoreLaws.{length-stripes_among}
@@ -100,7 +100,7 @@ sum-placed f (y ∷ ys) x none = one (nat_lt x.number y.number) (x.number == y.n
       let rest : sum_by f (placed ys x) ≡ f x + sum_by f ys = more missing in
       omega (arith, rest, sum_by-cons f y (placed ys x), sum_by-cons f y ys)
 
-sum-put : (f : Stripe → ℕ) (nodes : List ℕ) (n a : ℕ) (ds : List (List (List ℕ))) (xs : List Stripe)
+pub sum-put : (f : Stripe → ℕ) (nodes : List ℕ) (n a : ℕ) (ds : List (List (List ℕ))) (xs : List Stripe)
     → ((s : ℕ) → a ≤ s → s < a + length ds → find (λ x. x.number == s) xs ≡ None)
     → sum_by f (fold placed xs (stripes_among nodes n a ds)) ≡ sum_by f (stripes_among nodes n a ds) + sum_by f xs
 sum-put f nodes n a [] xs none = sym (zero-add (sum_by f xs))
@@ -276,6 +276,14 @@ stored_outline shape told old new history e first count up rows legal is next ac
     λ s outside. find-put_other at n first ds t.stripes s (subst (λ (c : ℕ). (s < first) ⊎ (first + c ≤ s)) counted outside) in
     let chunk : (i : ℕ) → i < count → map (standing t.nodes) (take n (drop (i * n) rows)) ≡ rows_among at n (first + i) =
     λ i h. chunk-stands shape told t first up e.bytes rows i count (get_or ds i []) kept h size (datum i h) in
+    let kept_new : (s i r : ℕ) (x : ReceiptState) → i < count → s ≡ first + i → slice_get (receipts_of new s) r ≡ Some x → IsKeptAt shape told t up (first + i) r (get_or ds i []) x =
+    λ s i r x i_low place h.
+    let here : slice_get (take n (drop (i * n) rows)) r ≡ Some x =
+    ap (λ (xs : List ReceiptState). slice_get xs r) (sym (receipts s ∙ ap (receipts_in n (f ∷ old.files)) place ∙ receipts-new n f old.files i i_low)) ∙ h in
+    let low : r < n = omega (arith, slice_get_within (take n (drop (i * n) rows)) r x here, length-chunk i count n rows i_low size) in
+    kept i r (get_or ds i []) x (datum i i_low) low (sym (get-chunk i count n r rows i_low size low) ∙ here) in
+    let kept_old : (s r : ℕ) (x : ReceiptState) → (s < first) ⊎ (first + count ≤ s) → slice_get (receipts_of new s) r ≡ Some x → slice_get (receipts_of old s) r ≡ Some x =
+    λ s r x outside h. ap (λ (xs : List ReceiptState). slice_get xs r) (sym (receipts s ∙ receipts-old n f old.files s (off_number s f outside) ∙ before s)) ∙ h in
     onto shape told new u (table_of shape (history ++ e ∷ [])) (λ m. loss_positions m history) (λ m. loss_positions m (history ++ e ∷ []))
     (record {
       sizes = stores.file.shape ∙ is.sizes;
@@ -295,11 +303,7 @@ stored_outline shape told old new history e first count up rows legal is next ac
       ]);
       receipts = λ s r x h. elim (place_in s first count) [
         | inl new ↦
-            let here : slice_get (take n (drop (new.0 * n) rows)) r ≡ Some x =
-            ap (λ (xs : List ReceiptState). slice_get xs r) (sym (receipts s ∙ ap (receipts_in n (f ∷ old.files)) new.2 ∙ receipts-new n f old.files new.0 new.1)) ∙ h in
-            let low : r < n = omega (arith, slice_get_within (take n (drop (new.0 * n) rows)) r x here, length-chunk new.0 count n rows new.1 size) in
-            let own : IsKeptAt shape told t up (first + new.0) r (get_or ds new.0 []) x =
-            kept new.0 r (get_or ds new.0 []) x (datum new.0 new.1) low (sym (get-chunk new.0 count n r rows new.1 size low) ∙ here) in
+            let own : IsKeptAt shape told t up (first + new.0) r (get_or ds new.0 []) x = kept_new s new.0 r x new.1 new.2 h in
             record {
               of_stripe = own.of_stripe ∙ sym new.2;
               of_row = own.of_row;
@@ -308,7 +312,15 @@ stored_outline shape told old new history e first count up rows legal is next ac
             }
         | inr outside ↦
             same_receipt shape told t u s r x (ap (λ (o : Option Stripe). option_map_or (λ y. y.blocks) o []) (stays s outside))
-            (is.receipts s r x (ap (λ (xs : List ReceiptState). slice_get xs r) (sym (receipts s ∙ receipts-old n f old.files s (off_number s f outside) ∙ before s)) ∙ h))
+            (is.receipts s r x (kept_old s r x outside h))
+      ];
+      past = λ s r x h. elim (place_in s first count) [
+        | inl new ↦
+            let own : IsKeptAt shape told t up (first + new.0) r (get_or ds new.0 []) x = kept_new s new.0 r x new.1 new.2 h in
+            let same : inc_of t x.node ≡ x.inc = ap (λ (o : Option Node). option_map_or (λ y. y.inc) o 0) own.alive in
+            omega (arith, same)
+        | inr outside ↦
+            is.past s r x (kept_old s r x outside h)
       ];
       live = λ m h.
           stores.counts.live m ∙ ap (λ (k : ℕ). k + count_by (λ x. stands_live m (standing (map (λ y. y.node) old.nodes) x)) rows) (is.live m (subst (λ (k : ℕ). m < k) as_many h))

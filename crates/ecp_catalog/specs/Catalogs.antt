@@ -1,5 +1,5 @@
 -- What is seen of a catalog: its files with their receipts, and its nodes.
-use Rattle.std.specs.Prelude.{◌≡◌, ℕ, ◌+◌, ◌-◌, ◌*◌, ◌<◌, ◌≤◌, zero, suc, Bool, true, false, ◌||◌, List, [], ◌∷◌, ◌++◌, length, map, max, min, replicate, count_by, find, slice_get, bytes_eq, nat_le, nat_lt, if◌then◌else◌, option_and_then, Option, Some, None}
+use Rattle.std.specs.Prelude.{◌≡◌, ℕ, ◌+◌, ◌-◌, ◌*◌, ◌<◌, ◌≤◌, ◌==◌, zero, suc, Bool, true, false, not, ◌||◌, List, [], ◌∷◌, ◌++◌, length, map, max, min, replicate, count_by, find, slice_get, slice_set, bytes_eq, nat_le, nat_lt, if◌then◌else◌, option_and_then, Option, Some, None}
 use Rattle.std.specs.List.{list_any}
 use Rattle.std.specs.Option.{option_map_or}
 use Rattle.ecp_shape.specs.declared.shape.Shape.{Shape}
@@ -113,6 +113,14 @@ lost_at position x = record {
   spare = x.spare - 1;
 }
 
+-- a node that came up in its next incarnation
+abbrev pub joined_node : NodeSeen → NodeSeen
+joined_node x = record { node = record { up = true; inc = x.node.inc + 1 }; live = x.live; losses = x.losses; spare = x.spare }
+
+-- a node on which one live block more stands
+abbrev pub counted : NodeSeen → NodeSeen
+counted x = record { node = x.node; live = x.live + 1; losses = x.losses; spare = x.spare }
+
 -- a node with room for at least so many losses
 abbrev pub with_spare : ℕ → NodeSeen → NodeSeen
 with_spare hands x = record { node = x.node; live = x.live; losses = x.losses; spare = max x.spare hands }
@@ -163,6 +171,27 @@ receipts_of c s = receipts_in c.shape.n c.files s
 -- where the rows of a stripe stand
 abbrev pub standings_of : CatalogState → ℕ → List Standing
 standings_of c s = map (standing (plain c).nodes) (receipts_of c s)
+
+-- the receipts of the rows of stripe s, with this one in the place of that of its row, if it is of the stripe
+abbrev pub with_receipt : ReceiptState → ℕ → List ReceiptState → List ReceiptState
+with_receipt x s rows = if s == x.stripe then slice_set rows x.row x else rows
+
+-- the files are the same, but for the receipt of one row, in whose place this one stands
+pub record Replaces (old new : FilesSeen) (x : ReceiptState) : Type 0 where
+  pub shape : new.shape ≡ old.shape
+  pub files : map (λ f. f.file) new.files ≡ map (λ f. f.file) old.files
+  pub receipts : (s : ℕ) → receipts_in old.shape.n new.files s ≡ with_receipt x s (receipts_in old.shape.n old.files s)
+  pub names : new.names ≡ old.names
+  pub room : new.room ≡ old.room
+
+-- the catalog with this receipt in the place of the one of its row, and with one live block more on its node
+pub record Restores (old new : CatalogState) (x : ReceiptState) : Type 0 where
+  pub files : Replaces (files_of old) (files_of new) x
+  pub nodes : new.nodes ≡ changed_at counted x.node old.nodes
+
+-- whether a row of a stripe is there and lost
+abbrev pub is_lost_in : CatalogState → ℕ → ℕ → Bool
+is_lost_in c s r = option_map_or (λ x. not x.live) (slice_get (standings_of c s) r) false
 
 -- whether a row of a stripe is live
 abbrev pub is_live_in : CatalogState → ℕ → ℕ → Bool

@@ -1,12 +1,12 @@
 -- What a catalog keeps of its parts.
-use Rattle.std.specs.Prelude.{◌≡◌, ℕ, ◌+◌, ◌-◌, ◌*◌, ◌<◌, ◌≤◌, nat_le, nat_lt, Bool, ◌&&◌, List, [], ◌∷◌, length, reverse, find, sum_by, slice_get, All, Option, Some, None, option_map, option_and_then, MatchOption, ⊤}
+use Rattle.std.specs.Prelude.{◌≡◌, ℕ, ◌+◌, ◌-◌, ◌*◌, ◌<◌, ◌≤◌, nat_le, nat_lt, Bool, true, ◌&&◌, List, [], ◌∷◌, length, reverse, find, sum_by, slice_get, All, Option, Some, None, option_map, option_and_then, MatchOption, ⊤}
 use Rattle.ecp_shape.specs.declared.shape.Shape.{Shape}
 use Rattle.ecp_shape.specs.Range.{IsInRange}
 use Rattle.ecp_code.specs.Stripes.{stripe_count}
 use Rattle.ecp_history.specs.declared.table.file.File.{File}
 use Rattle.ecp_catalog.specs.declared.limits.TheConstants.{END_OF_STRIPES}
 use Rattle.ecp_catalog.specs.declared.span.Span.{Span}
-use Rattle.ecp_catalog.specs.Standing.{FileSeen, file_with}
+use Rattle.ecp_catalog.specs.Standing.{FileSeen, file_with, has_number}
 use Rattle.ecp_catalog.specs.Catalogs.{NodeSeen, file_named}
 
 -- whether a span has the stripe with this number
@@ -45,6 +45,10 @@ pub record IsFile (shape : Shape) (f : FileSeen) : Type 0 where
   pub below : f.file.first + f.file.stripes ≤ END_OF_STRIPES
   pub full : length f.rows ≡ f.file.stripes * shape.n
 
+-- no two of these files have one number
+abbrev pub AreApart : List FileSeen → Type 0
+AreApart files = (i j s : ℕ) (f g : FileSeen) → slice_get files i ≡ Some f → slice_get files j ≡ Some g → has_number s f ≡ true → has_number s g ≡ true → i ≡ j
+
 -- each name leads to its file, and each stripe number to the file that has it; the files stand in order of storing
 pub record AreFiles (shape : Shape) (files : List FileSeen) (led : List ℕ → Option ℕ) (spans : List Span) : Type 0 where
   pub in_range : IsInRange shape
@@ -52,6 +56,7 @@ pub record AreFiles (shape : Shape) (files : List FileSeen) (led : List ℕ → 
   pub named : (q : List ℕ) → file_named (reverse files) q ≡ option_map (λ f. f.file) (option_and_then (slice_get files) (led q))
   pub within : (q : List ℕ) → MatchOption (led q) ⊤ (λ i. i < length files)
   pub numbered : (s : ℕ) → file_with (reverse files) s ≡ file_at files (find (covers s) spans)
+  pub apart : AreApart files
   pub known : All (λ x. x.file < length files) spans
   pub spread : IsSpread 0 END_OF_STRIPES spans
   pub all : stripes_stored (reverse files) ≡ spanned spans

@@ -1,6 +1,6 @@
 -- When a catalog is the outline of a history: it says what the history's table says but for the bytes, its receipts name
 -- the bytes, and it has the positions of the losses.
-use Rattle.std.specs.Prelude.{◌≡◌, ℕ, ◌+◌, ◌*◌, ◌<◌, Bool, true, false, List, length, map, filter, slice_get, is_some, Some}
+use Rattle.std.specs.Prelude.{◌≡◌, ℕ, ◌+◌, ◌*◌, ◌<◌, ◌≤◌, Bool, true, false, List, length, map, filter, slice_get, is_some, Some}
 use Rattle.std.specs.List.{enumerate_from}
 use Rattle.ecp_shape.specs.declared.shape.Shape.{Shape}
 use Rattle.ecp_code.specs.Rows.{row}
@@ -12,12 +12,12 @@ use Rattle.ecp_entry.specs.declared.entry.Entry.{Entry}
 use Rattle.ecp_entry.specs.Entries.{is_loss}
 use Rattle.ecp_history.specs.table.Placement.{place}
 use Rattle.ecp_history.specs.declared.table.file.File.{File}
-use Rattle.ecp_history.specs.table.Tables.{PlainTable, stripe_of, rows_of, live_on}
+use Rattle.ecp_history.specs.table.Tables.{PlainTable, stripe_of, rows_of, live_on, inc_of}
 use Rattle.ecp_history.specs.table.Steps.{table_of}
 use Rattle.ecp_history.specs.Fronts.{AreOfBlock}
 use Rattle.ecp_history.specs.Legal.{IsLegal, MayFollow}
 use Rattle.ecp_catalog.specs.Standing.{file_with}
-use Rattle.ecp_catalog.specs.Catalogs.{CatalogState, Stores, plain, receipts_of, standings_of, live_of, losses_of}
+use Rattle.ecp_catalog.specs.Catalogs.{CatalogState, Restores, Stores, plain, receipts_of, standings_of, live_of, losses_of}
 
 -- the positions of the losses of a node in a history, rising
 abbrev pub loss_positions : ℕ → List Entry → List ℕ
@@ -30,7 +30,8 @@ pub record IsReceiptOf (shape : Shape) (told : Bool) (t : PlainTable) (s r : ℕ
   pub bytes : AreOfBlock shape told t s r x.bytes
 
 -- The catalog has the files, the stripes and the nodes of a table. Each row stands as there, and its receipt names the
--- bytes that it has there. Of each node its live blocks are counted, and the positions of its losses are these
+-- bytes that it has there, and is of no later incarnation than its node. Of each node its live blocks are counted, and the
+-- positions of its losses are these
 pub record IsOutlineOf (shape : Shape) (told : Bool) (c : CatalogState) (t : PlainTable) (lost : ℕ → List ℕ) : Type 0 where
   pub sizes : c.shape ≡ shape
   pub files : (plain c).files ≡ t.files
@@ -38,6 +39,7 @@ pub record IsOutlineOf (shape : Shape) (told : Bool) (c : CatalogState) (t : Pla
   pub stripes : (s : ℕ) → is_some (file_with c.files s) ≡ is_some (stripe_of t s)
   pub rows : (s : ℕ) → standings_of c s ≡ rows_of t s
   pub receipts : (s r : ℕ) (x : ReceiptState) → slice_get (receipts_of c s) r ≡ Some x → IsReceiptOf shape told t s r x
+  pub past : (s r : ℕ) (x : ReceiptState) → slice_get (receipts_of c s) r ≡ Some x → x.inc ≤ inc_of t x.node
   pub live : (m : ℕ) → m < length c.nodes → live_of c.nodes m ≡ live_on t m
   pub losses : (m : ℕ) → m < length c.nodes → losses_of c.nodes m ≡ lost m
 
@@ -92,3 +94,14 @@ pub record TakesFile (shape : Shape) (told : Bool) (old new : CatalogState) (his
   pub kept : AreKept shape told (table_of shape history) first up e.bytes rows
   pub full : length rows ≡ count * shape.n
   pub taken : Stores old new (record { file = file_stored e first count; rows = rows })
+
+-- An entry may follow a history and restores a block: the catalog, which was the history's outline, took the receipt of the
+-- block, and so became this one
+pub record TakesBlock (shape : Shape) (told : Bool) (old new : CatalogState) (history : List Entry) (e : Entry) : Type 0 where
+  pub receipt : ReceiptState
+  pub legal : IsLegal shape told history
+  pub outlined : IsOutline shape told old history
+  pub follows : MayFollow shape told history e
+  pub says : e.line.act ≡ Restored receipt.stripe receipt.row receipt.node receipt.inc
+  pub bytes : AreOfBlock shape told (table_of shape history) receipt.stripe receipt.row receipt.bytes
+  pub taken : Restores old new receipt

@@ -1,9 +1,10 @@
-ghost use Rattle.std.specs.Prelude.{◌≡◌, ◌+◌, ◌<◌, ◌≤◌, All, IfOk, IsSome, OnErr, OnOk, [], is_none, is_some, length, replicate, slice_get, true};
+ghost use Rattle.std.specs.Prelude.{◌≡◌, ◌+◌, ◌^◌, ◌<◌, ◌≤◌, All, IfOk, IsSome, OnErr, OnOk, [], is_none, is_some, length, replicate, slice_get, true};
 ghost use Rattle.ecp_shape.specs.Range.{IsInRange};
 ghost use Rattle.ecp_history.specs.Named.{block_at};
 ghost use Rattle.ecp_history.specs.table.Tables.{block_count, file_of, inc_of, is_up, up_count, up_mask};
-ghost use Rattle.ecp_catalog.specs.Catalogs.{CanStore, Reserves, Stores, changed_at, empty, files_of, first_loss, first_loss_among, is_live_in, live_of, losses_of, lost_at, plain, receipts_of, spare_of, standings_of, with_spare};
-ghost use Rattle.ecp_catalog.specs.Standing.{file_with, live_among};
+ghost use Rattle.ecp_catalog.specs.Catalogs.{CanStore, Reserves, Restores, Stores, changed_at, empty, files_of, first_loss, first_loss_among, is_live_in, is_lost_in, joined_node, live_of, losses_of, lost_at, plain, receipts_of, spare_of, standings_of, with_spare};
+ghost use Rattle.ecp_catalog.specs.Standing.{file_with, live_among, standing};
+ghost use Rattle.ecp_catalog.specs.Kept.{rows_stored};
 
 use crate::file_list::{FileList, block_count};
 use crate::live_rows::LiveRows;
@@ -24,7 +25,8 @@ use std::marker::Model;
 /// nodes.
 ///
 /// A question costs at most what a stripe has rows or a service has nodes, beside one search by a name or by a number.
-/// Questions, [`lose`](Catalog::lose) and [`store`](Catalog::store) take no memory: [`reserve`](Catalog::reserve) and
+/// Questions, [`lose`](Catalog::lose), [`join`](Catalog::join), [`restore`](Catalog::restore) and
+/// [`store`](Catalog::store) take no memory: [`reserve`](Catalog::reserve) and
 /// [`reserve_loss`](Catalog::reserve_loss) take it before.
 #[derive(Drop)]
 pub struct Catalog<N: Names> {
@@ -98,6 +100,28 @@ impl<N: Names> Catalog<N> {
     {
         self.nodes[node as usize].lose(position);
     }
+
+    /// A node that is down comes up, empty, in its next incarnation. Takes no memory.
+    pub fn join(&mut self, node: u32)
+        requires there { node < self.old.shape.nodes }
+        requires next { inc_of (plain self.old) node + 1 < 2 ^ 32 }
+        ensures { self.new ≡ record self.old { nodes = changed_at joined_node node self.old.nodes } }
+    {
+        self.nodes[node as usize].join();
+    }
+
+    /// A lost row of a stripe is live by this receipt, which takes the place of the one that it had and is let go. Takes
+    /// no memory.
+    pub fn restore(&mut self, receipt: Receipt<N>)
+        requires lost { is_lost_in self.old receipt.stripe receipt.row ≡ true }
+        requires up { (standing (plain self.old).nodes receipt).live ≡ true }
+        requires few { live_of self.old.nodes receipt.node < rows_stored self.old.shape self.old.files }
+        ensures { Restores self.old self.new receipt }
+    {
+        let node = usize::from(receipt.node());
+        self.files.replace(receipt);
+        self.nodes[node].count();
+    }
 }
 
 impl<N: Names> Catalog<N> {
@@ -145,6 +169,19 @@ impl<N: Names> Catalog<N> {
         };
         match rows.get(usize::from(row)) {
             Some(receipt) => stands(&self.nodes, receipt),
+            None => false,
+        }
+    }
+
+    /// Whether a block is there and lost.
+    pub fn is_lost(&self, stripe: u32, row: u8) -> bool
+        ensures { result ≡ is_lost_in self.now stripe row }
+    {
+        let Some(rows) = self.files.rows_of(stripe) else {
+            return false;
+        };
+        match rows.get(usize::from(row)) {
+            Some(receipt) => !stands(&self.nodes, receipt),
             None => false,
         }
     }

@@ -1,6 +1,6 @@
 ghost use Rattle.std.specs.Prelude.{◌≡◌, ◌+◌, ◌<◌, ◌≤◌, [], length, IfSome, IsSome, IsTrue, OnErr, OnOk, Some, is_some, option_copied, option_map, slice_get};
 ghost use Rattle.ecp_shape.specs.Range.{IsInRange};
-ghost use Rattle.ecp_catalog.specs.Catalogs.{AddsFile, CanStore, Reserves, block_named, file_named};
+ghost use Rattle.ecp_catalog.specs.Catalogs.{AddsFile, CanStore, Replaces, Reserves, block_named, file_named};
 ghost use Rattle.ecp_catalog.specs.Kept.{IsFile, stripes_stored};
 ghost use Rattle.ecp_catalog.specs.Standing.{file_with, has_number, receipts_in, rows_in};
 ghost use Rattle.ecp_catalog.specs.declared.limits.TheConstants.{END_OF_STRIPES};
@@ -177,6 +177,24 @@ impl<N: Names> FileList<N> {
                 let file = &mut self.files[span.file];
                 let at = (stripe - file.file().first) as usize * n + usize::from(row);
                 file.receipt(book, at)
+            }
+            None => unreachable!(),
+        }
+    }
+
+    /// Another receipt of a block, in the place of the one that it had. Takes no memory.
+    pub(crate) fn replace(&mut self, receipt: Receipt<N>)
+        requires { IsSome (slice_get (receipts_in self.old.shape.n self.old.files receipt.stripe) receipt.row) }
+        ensures files { Replaces self.old self.new receipt }
+        ensures most { stripes_stored self.new.files ≤ END_OF_STRIPES }
+    {
+        let stripe = receipt.stripe();
+        match span_with(&self.spans, stripe) {
+            Some(span) => {
+                let n = self.shape.n as usize;
+                let file = &mut self.files[span.file];
+                let at = (stripe - file.file().first) as usize * n + usize::from(receipt.row());
+                file.replace(at, receipt);
             }
             None => unreachable!(),
         }

@@ -5,17 +5,18 @@ ghost use Rattle.std.specs.List.{IsDistinct, position_from};
 ghost use Rattle.ecp_shape.specs.Range.{IsInRange};
 ghost use Rattle.ecp_shape.specs.declared.shape.Shape.{Shape};
 ghost use Rattle.ecp_node.specs.Receipts.{ReceiptState};
-ghost use Rattle.ecp_entry.specs.declared.act.Act.TheVariants.{Stored};
+ghost use Rattle.ecp_entry.specs.declared.act.Act.TheVariants.{Joined, Restored, Stored};
 ghost use Rattle.ecp_entry.specs.declared.entry.Entry.{Entry};
-ghost use Rattle.ecp_entry.specs.Entries.{is_loss, loss_of};
+ghost use Rattle.ecp_entry.specs.Entries.{deed_node, is_loss, loss_of};
 ghost use Rattle.ecp_history.specs.Acts.{AreFresh};
 ghost use Rattle.ecp_history.specs.Legal.{IsLegal, MayFollow};
 ghost use Rattle.ecp_history.specs.Named.{block_at};
-ghost use Rattle.ecp_history.specs.table.Tables.{file_of, inc_of, is_live, is_up, live_rows, up_count, up_mask};
+ghost use Rattle.ecp_history.specs.table.Tables.{file_of, inc_of, is_down, is_live, is_up, live_rows, up_count, up_mask};
 ghost use Rattle.ecp_history.specs.table.Steps.{table_of};
-ghost use Rattle.ecp_catalog.specs.Standing.{file_with, live_among};
-ghost use Rattle.ecp_catalog.specs.Catalogs.{CatalogState, Reserves, Stores, changed_at, empty, files_of, first_loss, is_live_in, losses_of, lost_at, plain, standings_of, with_spare};
-ghost use Rattle.ecp_catalog.specs.Outline.{AreKept, IsOutline, TakesFile, changes, file_stored};
+ghost use Rattle.ecp_catalog.specs.Standing.{file_with, live_among, standing};
+ghost use Rattle.ecp_catalog.specs.Kept.{rows_stored};
+ghost use Rattle.ecp_catalog.specs.Catalogs.{CatalogState, Reserves, Stores, changed_at, empty, files_of, first_loss, is_live_in, is_lost_in, joined_node, live_of, losses_of, lost_at, plain, standings_of, with_spare};
+ghost use Rattle.ecp_catalog.specs.Outline.{AreKept, IsOutline, TakesBlock, TakesFile, changes, file_stored};
 
 /// The catalog at the start is the outline of the empty history.
 pub fn the_start_is_an_outline()
@@ -47,10 +48,36 @@ pub fn a_loss_is_outlined()
         IsOutline shape told c history → m < length c.nodes → All (λ p. p < length history) (losses_of c.nodes m) }
 {}
 
+/// After a node that was down came up, the catalog in which it did is the outline. A node that is down came up less often
+/// than the history has entries, since it was lost before each time and once more.
+pub fn a_join_is_outlined()
+    ensures outline { (shape : Shape) (told : Bool) (c : CatalogState) (history : List Entry) (e : Entry) (m : ℕ) →
+        IsOutline shape told c history → is_up (plain c) m ≡ false → deed_node e.deed ≡ Some m → e.line.act ≡ Joined (inc_of (plain c) m + 1) →
+        IsOutline shape told (record c { nodes = changed_at joined_node m c.nodes }) (history ++ e ∷ []) }
+    ensures few { (shape : Shape) (told : Bool) (c : CatalogState) (history : List Entry) (m : ℕ) →
+        IsLegal shape told history → IsOutline shape told c history → is_down (plain c) m ≡ true → inc_of (plain c) m + 1 ≤ length history }
+{}
+
 /// After an entry that stores a file, the catalog that stored it with the receipts of its rows is the outline.
 pub fn a_stored_file_is_outlined()
     ensures { (shape : Shape) (told : Bool) (old new : CatalogState) (history : List Entry) (e : Entry) →
         TakesFile shape told old new history e → IsOutline shape told new (history ++ e ∷ []) }
+{}
+
+/// After an entry that restores a block, the catalog that took the block's receipt is the outline. It may take it: the row
+/// is lost, the receipt's node is up in its incarnation, and no node has as many live blocks as were stored, where one of
+/// them is lost.
+pub fn a_restored_block_is_outlined()
+    ensures outline { (shape : Shape) (told : Bool) (old new : CatalogState) (history : List Entry) (e : Entry) →
+        TakesBlock shape told old new history e → IsOutline shape told new (history ++ e ∷ []) }
+    ensures lost { (shape : Shape) (told : Bool) (c : CatalogState) (history : List Entry) (e : Entry) (s r m inc : ℕ) →
+        IsOutline shape told c history → MayFollow shape told history e → e.line.act ≡ Restored s r m inc → is_lost_in c s r ≡ true }
+    ensures up { (shape : Shape) (told : Bool) (c : CatalogState) (history : List Entry) (e : Entry) (x : ReceiptState) →
+        IsLegal shape told history → IsOutline shape told c history → MayFollow shape told history e →
+        e.line.act ≡ Restored x.stripe x.row x.node x.inc → (standing (plain c).nodes x).live ≡ true }
+    ensures few { (shape : Shape) (told : Bool) (c : CatalogState) (history : List Entry) (s r m : ℕ) →
+        IsLegal shape told history → IsOutline shape told c history → is_lost_in c s r ≡ true →
+        live_of c.nodes m < rows_stored c.shape c.files }
 {}
 
 /// No file of a legal history's outline has a stripe number that no entry has stored.

@@ -1,5 +1,5 @@
 ghost use Rattle.std.specs.Prelude.{◌≡◌, ◌+◌, ◌^◌, ◌<◌, ◌≤◌, All, OnOk, OnErr, find, nat_le, slice_get};
-ghost use Rattle.ecp_catalog.specs.Catalogs.{lost_at, new_node, with_spare};
+ghost use Rattle.ecp_catalog.specs.Catalogs.{counted, joined_node, lost_at, new_node, with_spare};
 ghost use Rattle.ecp_catalog.specs.Standing.{is_up_in};
 
 use ecp_history::Node;
@@ -74,7 +74,7 @@ impl NodeRow {
     /// One live block more stands on it.
     pub(crate) fn count(&mut self)
         requires { self.old.live + 1 < 2 ^ 32 }
-        ensures { self.new ≡ record self.old { live = self.old.live + 1 } }
+        ensures { self.new ≡ counted self.old }
     {
         self.live += 1;
     }
@@ -89,6 +89,15 @@ impl NodeRow {
         self.spare -= 1;
         self.node.up = false;
         self.live = 0;
+    }
+
+    /// It is up, in its next incarnation.
+    pub(crate) fn join(&mut self)
+        requires { self.old.node.inc + 1 < 2 ^ 32 }
+        ensures { self.new ≡ joined_node self.old }
+    {
+        self.node.up = true;
+        self.node.inc += 1;
     }
 
     /// Takes room for so many losses. A refusal changes nothing.

@@ -1,4 +1,4 @@
-ghost use Rattle.std.specs.Prelude.{◌≡◌, ◌+◌, ◌<◌, ◌≤◌, drop, length, slice_get, take};
+ghost use Rattle.std.specs.Prelude.{◌≡◌, ◌+◌, ◌<◌, ◌≤◌, drop, length, slice_get, slice_set, take};
 
 use ecp_book::{Book, Names};
 use ecp_history::File;
@@ -55,5 +55,13 @@ impl<N: Names> StoredFile<N> {
         ensures kept { self.new ≡ self.old }
     {
         self.rows[at].copy(book)
+    }
+
+    /// Another receipt for the block with this number, in the place of the one that it had.
+    pub(crate) fn replace(&mut self, at: usize, receipt: Receipt<N>)
+        requires { at < length self.old.rows }
+        ensures { self.new ≡ record { file = self.old.file; rows = slice_set self.old.rows at receipt } }
+    {
+        self.rows[at] = receipt;
     }
 }

@@ -1,4 +1,6 @@
 ghost use Rattle.std.specs.Prelude.{◌≡◌, ℕ, ◌<◌, IfOk, true, vec_len};
+ghost use Rattle.ecp_catalog.specs.Catalogs.{plain};
+ghost use Rattle.ecp_catalog.specs.Standing.{standing};
 ghost use Rattle.ecp_book.specs.Logs.{empty_log, history_log, node_log};
 ghost use Rattle.ecp_node.specs.Nodes.{start_of};
 
@@ -15,7 +17,8 @@ use std::marker::Brand;
 use std::process::Abort;
 use std::test::Fail;
 
-/// The receipt of a row of stripe 0, from the node of its number, which keeps one byte for it.
+/// The receipt of a row of stripe 0, from the node of its number, which keeps one byte for it. The node keeps row 0 too,
+/// whose receipt goes behind the spare ones.
 fn kept<N: Names, R: Abort>(
     rt: &R,
     alloc: Global,
@@ -23,6 +26,7 @@ fn kept<N: Names, R: Abort>(
     keeper: Keeper<N>,
     past: Tag<N>,
     row: u8,
+    spare: &mut Vec<Receipt<N>>,
 ) -> Result<Receipt<N>, Fail>
     requires stores { (m : ℕ) → m < 3 → start_of N.stores m ≡ record { faults = 0; faultless = true } }
     requires row { row < 3 }
@@ -35,15 +39,20 @@ fn kept<N: Names, R: Abort>(
     let Ok(receipt) = node.keep(book, 0, row, 0, &[0x41]) else {
         return Err("kept".into());
     };
+    let Ok(other) = node.keep(book, 0, 0, 0, &[0x41]) else {
+        return Err("kept row 0".into());
+    };
+    spare.push(other)?;
     Ok(receipt)
 }
 
-/// The receipts of the three rows of stripe 0, each on the node of its number.
+/// The receipts of the three rows of stripe 0, each on the node of its number, and the spare ones of row 0 on each node.
 fn three_rows<N: Names, R: Abort>(
     rt: &R,
     alloc: Global,
     book: &Book<N>,
     mut keepers: Vec<Keeper<N>>,
+    spare: &mut Vec<Receipt<N>>,
 ) -> Result<Vec<Receipt<N>>, Fail>
     requires stores { (m : ℕ) → m < 3 → start_of N.stores m ≡ record { faults = 0; faultless = true } }
 {
@@ -53,9 +62,9 @@ fn three_rows<N: Names, R: Abort>(
     let mut history = keepers.pop().ok_or("log 0")?;
     assert!(rt; history.log() == 0);
     let mut rows = Vec::new(alloc);
-    rows.push(kept(rt, alloc, book, first, book.tag(&mut history), 0)?)?;
-    rows.push(kept(rt, alloc, book, second, book.tag(&mut history), 1)?)?;
-    rows.push(kept(rt, alloc, book, third, book.tag(&mut history), 2)?)?;
+    rows.push(kept(rt, alloc, book, first, book.tag(&mut history), 0, spare)?)?;
+    rows.push(kept(rt, alloc, book, second, book.tag(&mut history), 1, spare)?)?;
+    rows.push(kept(rt, alloc, book, third, book.tag(&mut history), 2, spare)?)?;
     Ok(rows)
 }
 
@@ -100,6 +109,44 @@ fn lose<N: Names, R: Abort>(
     }
 }
 
+/// Brings up a node that came up seldom.
+fn join<N: Names, R: Abort>(rt: &R, catalog: &mut Catalog<N>, node: u32) {
+    assert!(rt; node < catalog.shape().nodes && catalog.inc(node) < 7);
+    catalog.join(node);
+}
+
+/// Restores a lost row of stripe 0 onto a node that is up, and has few live blocks.
+fn restore<N: Names>(catalog: &mut Catalog<N>, receipt: Receipt<N>) -> Result<(), Fail> {
+    let node = u32::from(receipt.node());
+    let up = catalog.is_up(node);
+    let inc = catalog.inc(node);
+    if up {
+        if inc == receipt.inc() {
+            return restore_lost(catalog, receipt);
+        }
+    }
+    Err("a node that is up".into())
+}
+
+/// Restores a lost row of stripe 0 onto a node that has few live blocks.
+fn restore_lost<N: Names>(catalog: &mut Catalog<N>, receipt: Receipt<N>) -> Result<(), Fail>
+    requires up { (standing (plain catalog.old).nodes receipt).live ≡ true }
+{
+    let there = catalog.has_stripe(0);
+    let live = catalog.live_on(u32::from(receipt.node()));
+    let most = catalog.shape().n;
+    let lost = catalog.is_lost(receipt.stripe(), receipt.row());
+    if there {
+        if live < most {
+            if lost {
+                catalog.restore(receipt);
+                return Ok(());
+            }
+        }
+    }
+    Err("a lost row, and a node with few live blocks".into())
+}
+
 #[test]
 fn rows_are_live_until_their_node_is_lost(rt: HostRuntime) -> Result<(), Fail> {
     let blank = Blank::new(rt.alloc(), 4)?;
@@ -111,7 +158,8 @@ fn put_and_lost<N: Names, R: Abort>(rt: &R, alloc: Global, blank: Blank) -> Resu
     requires stores { (m : ℕ) → m < 3 → start_of N.stores m ≡ record { faults = 0; faultless = true } }
 {
     let (book, keepers) = Book::<N>::open(alloc, blank)?;
-    let rows = three_rows(rt, alloc, &book, keepers)?;
+    let mut spare = Vec::new(alloc);
+    let rows = three_rows(rt, alloc, &book, keepers, &mut spare)?;
     assert!(rt; rows.len() == 3);
     let mut catalog = with_file(alloc, rows)?;
     is_whole(rt, &catalog);
@@ -119,6 +167,11 @@ fn put_and_lost<N: Names, R: Abort>(rt: &R, alloc: Global, blank: Blank) -> Resu
     lose(rt, &mut catalog, 0, 1)?;
     is_without_node_zero(rt, &catalog);
     knows_the_loss(rt, &catalog);
+    join(rt, &mut catalog, 0);
+    node_zero_is_back_without_its_block(rt, &catalog);
+    let on_two = spare.pop().ok_or("row 0 on node 2")?;
+    restore(&mut catalog, on_two)?;
+    row_zero_is_live_on_node_two(rt, &catalog);
     Ok(())
 }
 
@@ -155,6 +208,22 @@ fn knows_the_loss<N: Names, R: Abort>(rt: &R, catalog: &Catalog<N>) {
     assert!(rt; catalog.first_loss_among(6, 0).is_none());
 }
 
+fn node_zero_is_back_without_its_block<N: Names, R: Abort>(rt: &R, catalog: &Catalog<N>) {
+    assert!(rt; catalog.is_up(0) && catalog.inc(0) == 1 && catalog.up_mask() == 7);
+    assert!(rt; !catalog.is_live(0, 0) && catalog.live_on(0) == 0);
+}
+
+fn row_zero_is_live_on_node_two<N: Names, R: Abort>(rt: &R, catalog: &Catalog<N>) {
+    assert!(rt; catalog.is_live(0, 0) && !catalog.is_lost(0, 0) && !catalog.is_lost(0, 3));
+    assert!(rt; catalog.live_on(0) == 0 && catalog.live_on(1) == 1 && catalog.live_on(2) == 2);
+    let live = [
+        LiveRow { row: 0, node: 2 },
+        LiveRow { row: 1, node: 1 },
+        LiveRow { row: 2, node: 2 },
+    ];
+    assert_eq!(rt; catalog.live_rows(0).as_slice(), &live[..]);
+}
+
 #[test]
 fn stamps_go_round(rt: HostRuntime) -> Result<(), Fail> {
     let blank = Blank::new(rt.alloc(), 4)?;
@@ -167,7 +236,8 @@ fn three_helps<N: Names, R: Abort>(rt: &R, alloc: Global, blank: Blank) -> Resul
     requires stores { (m : ℕ) → m < 3 → start_of N.stores m ≡ record { faults = 0; faultless = true } }
 {
     let (book, keepers) = Book::<N>::open(alloc, blank)?;
-    let mut rows = three_rows(rt, alloc, &book, keepers)?;
+    let mut spare = Vec::new(alloc);
+    let mut rows = three_rows(rt, alloc, &book, keepers, &mut spare)?;
     let second = [helper(2, rows.pop().ok_or("row 2")?)];
     let first = [helper(1, rows.pop().ok_or("row 1")?)];
     let mut stamps = Stamps::new();

@@ -2,9 +2,9 @@ use Rattle.std.proofs.Common.{◌≡◌, ◌+◌, ◌-◌, ◌^◌, ◌<◌, ℕ
 use Rattle.std.specs.Prelude.{All}
 use Rattle.std.proofs.lemmas.List.{length-map}
 use Rattle.ecp_node.specs.Receipts.{ReceiptState}
-use Rattle.ecp_catalog.specs.Catalogs.{NodeSeen, CountsRows}
+use Rattle.ecp_catalog.specs.Catalogs.{NodeSeen, CountsRows, counted}
 use Rattle.ecp_catalog.specs.Standing.{standing}
-use Rattle.ecp_catalog.proofs.CountLaws.{counted, counts-live, counts-lost, live-within, room-live, room-lost}
+use Rattle.ecp_catalog.proofs.CountLaws.{counts-live, counts-lost, live-within, room-live, room-lost}
 use Rattle.ecp_catalog.proofs.node_list.count_rows.Goals as goal
 use Rattle.ecp_catalog.proofs.node_list.count_rows.Goals.{then-stands, else-stands}
 

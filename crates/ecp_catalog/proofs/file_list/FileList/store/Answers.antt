@@ -32,7 +32,11 @@ invariant_of-self g c =
     (λ s. c.put_file.ensures.found s ∙ ap (λ (n : ℕ). cond (has_number s f) (Some (span_of c.args.file n)) (find (covers s) c.self.inside.spans.items)) at)
     c.put_file.ensures.spread
     (λ n h all. c.put_file.ensures.files n (omega (arith, at, h)) all)
-    c.put_file.ensures.total in
+    c.put_file.ensures.total
+    (λ s has.
+    let both : (nat_le c.args.file.first s ≡ true) × (nat_lt s (c.args.file.first + c.args.file.stripes) ≡ true) = and_parts (nat_le c.args.file.first s) (nat_lt s (c.args.file.first + c.args.file.stripes)) has in
+    subst (λ (x : FilesSeen). file_with x.files s ≡ None) (sym c.self.view_is)
+    (c.requires.fresh s (leb-true c.args.file.first s both.0) (ltb-true s (c.args.file.first + c.args.file.stripes) both.1))) in
     let room : 1 ≤ c.self.inside.room = subst (λ (x : FilesSeen). 1 ≤ x.room) (sym c.self.view_is) c.requires.room in (
       subst (λ (fs : List FileSeen). AreFiles c.self.inside.shape fs new c.put_file.new.spans.items) (sym items) are,
       record {
