@@ -5,7 +5,7 @@ use Rattle.std.proofs.lemmas.List.Elements.{All-nil}
 use Rattle.ecp_shape.specs.declared.limits.TheConstants.{MAX_ATTEMPTS, MAX_NODES}
 use Rattle.ecp_shape.specs.declared.shape.Shape.{Shape}
 use Rattle.ecp_book.specs.Logs.{Known, Log}
-use Rattle.ecp_entry.specs.declared.deed.Deed.TheVariants as deed
+use Rattle.ecp_entry.specs.declared.deed.Deed.{Deed}
 use Rattle.ecp_entry.specs.declared.entry.Entry.{Entry}
 use Rattle.ecp_entry.specs.Told.{history_of, items_by}
 use Rattle.ecp_history.specs.declared.table.block_name.BlockName.{BlockName}
@@ -28,12 +28,12 @@ use Rattle.ecp_coord.specs.Attempts.{IsFirst}
 use Rattle.ecp_coord.specs.Calls.{IsFresh}
 use Rattle.ecp_coord.specs.Coords.{CoordParts, CoordState, IsCoord}
 use Rattle.ecp_coord.specs.Helping.{CanHelp}
-use Rattle.ecp_coord.specs.Plans.{Plans, block_of, is_recoverable, planning_of, sought}
+use Rattle.ecp_coord.specs.Plans.{AsksBlock, Plans, block_of, is_recoverable, planning_of, sought}
 use Rattle.ecp_coord.specs.Voids.{AreVoids}
 use Rattle.ecp_coord.proofs.FollowLaws.{IsMet}
 use Rattle.ecp_coord.proofs.HelpLaws.{can_help}
 use Rattle.ecp_coord.proofs.PlanLaws.{IsFit, made_chosen, made_live, made_sound, made_stamped, planned_is, recoverable}
-use Rattle.ecp_coord.proofs.SeekLaws.{IsHad, found_had}
+use Rattle.ecp_coord.proofs.SeekLaws.{IsHad, found_had, of_block}
 use Rattle.ecp_coord.proofs.StandLaws.{block_row}
 
 -- no position is kept yet
@@ -62,11 +62,11 @@ module _ (shape : Shape) (told : Bool) (callers spares : ℕ) (s : SequencerStat
     pub first_stamped : All (λ h. h.node < MAX_NODES) plan.hops.items
     first_stamped = made_stamped shape told p.catalog s.history is.range met.kept.legal is.outline is.each_node x.stamps m.cyclic plan first.made
 
-    pub first_plans : (t : SequencerState) (w : PassState) (y : StampsSeen) (stripes : ℕ) (nodes : List Log) (name : List ℕ) (index : ℕ) → IsFresh v (deed.Read name index)
+    pub first_plans : (t : SequencerState) (w : PassState) (y : StampsSeen) (stripes : ℕ) (nodes : List Log) (asked : Deed) (name : List ℕ) (index : ℕ) → AsksBlock asked name index → IsFresh v asked
         → sought shape (table_of shape (history_of s.history)) name index ≡ Ok m.block → m.slice ≡ p.slice
         → Event shape told s v [] (note (length s.history) ROOM (planning_of plan) ∷ []) t w → w.calls ≡ v.calls → IsRaised x y (map (λ h. h.node) plan.hops.items)
         → Plans shape told (state s x m.repair stripes m.slice m.cyclic nodes) v plan (state t y (m.repair + 1) stripes m.slice m.cyclic nodes) w
-    first_plans t w y stripes nodes name index fresh found slice event calls raised =
+    first_plans t w y stripes nodes asked name index asks fresh found slice event calls raised =
         let u : PlainTable = table_of shape (history_of s.history) in
         let had : IsHad shape u name index m.block = found_had shape u name index m.block found in
         let front : plan.front.items ≡ s.history = ap (λ (k : Known). k.items) first.made.front in
@@ -77,9 +77,9 @@ module _ (shape : Shape) (told : Bool) (callers spares : ℕ) (s : SequencerStat
         let cut : plan.slice ≡ p.slice = first.sizes.1 ∙ slice in
         let tries : plan.voids.len ≡ 0 = ap (λ (z : Voids). z.len) first.tries in
         let attempt : plan.attempt ≡ 1 = first.numbered.1 in
-        let fit : IsFit shape told (deed.Read name index) v.hand plan = record {
+        let fit : IsFit shape told asked v.hand plan = record {
           sound = made_sound shape told p.catalog s.history is.range met.kept.legal is.outline is.each_node x.stamps m.cyclic plan first.made row size (omega (arith, cut, is.sliced.0)) (omega (arith, cut, is.sliced.1)) own;
-          block = ap (λ (items : Log). block_at shape (told_table shape items) name index) front ∙ had.named ∙ ap (λ (b : BlockName). Some b) (sym first.block);
+          block = (of_block asked name index asks).block shape (told_table shape plan.front.items) ∙ ap (λ (items : Log). block_at shape (told_table shape items) name index) front ∙ had.named ∙ ap (λ (b : BlockName). Some b) (sym first.block);
           recoverable = subst (λ (items : Log). IsRecoverable shape (told_table shape items) plan.stripe plan.row) (sym front) (recoverable shape u (block_of plan) own);
           attempt = omega (arith, attempt, tries);
           most = omega (arith, attempt);
@@ -90,7 +90,7 @@ module _ (shape : Shape) (told : Bool) (callers spares : ℕ) (s : SequencerStat
         } in
         record {
           event = event;
-          planned = planned_is shape told s t v w (deed.Read name index) ROOM plan event calls fresh.is_open (omega arith) (omega (arith, attempt)) front first.made.point fit;
+          planned = planned_is shape told s t v w asked ROOM plan event calls fresh.is_open (omega arith) (omega (arith, attempt)) front first.made.point fit;
           made = record {
             front = front;
             chosen = made_chosen shape told p.catalog s.history is.range met.kept.legal is.outline is.each_node x.stamps m.cyclic plan first.made;

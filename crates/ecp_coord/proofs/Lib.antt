@@ -25,6 +25,8 @@ pub mod NextLaws
 pub mod RefuseLaws
 pub mod PlanningLaws
 pub mod LoseLaws
+pub mod JoinLaws
+pub mod StatLaws
 pub mod UpLaws
 pub mod OvertakeLaws
 pub mod StoreLaws

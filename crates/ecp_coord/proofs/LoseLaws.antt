@@ -38,7 +38,7 @@ use Rattle.ecp_coord.specs.Losing.{CanLose, act_of, after_losing, found_by_losin
 use Rattle.ecp_coord.proofs.EndLaws.{may_end}
 
 -- a node that is there and not up is down
-not_up : (nodes : List Node) (m : ℕ) → m < length nodes → option_map_or (λ (x : Node). x.up) (slice_get nodes m) false ≡ false
+pub not_up : (nodes : List Node) (m : ℕ) → m < length nodes → option_map_or (λ (x : Node). x.up) (slice_get nodes m) false ≡ false
     → option_map_or (λ (x : Node). not x.up) (slice_get nodes m) false ≡ true
 not_up [] m within is = absurd (omega arith)
 not_up (x ∷ nodes) zero within is = ap not is

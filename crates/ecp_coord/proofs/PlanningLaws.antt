@@ -5,7 +5,6 @@ use Rattle.ecp_shape.specs.declared.shape.Shape.{Shape}
 use Rattle.ecp_book.specs.Logs.{Log}
 use Rattle.ecp_entry.specs.declared.act.Act.{Act}
 use Rattle.ecp_entry.specs.declared.deed.Deed.{Deed}
-use Rattle.ecp_entry.specs.declared.deed.Deed.TheVariants as deed
 use Rattle.ecp_entry.specs.Told.{history_of}
 use Rattle.ecp_history.specs.Legal.{MayFollow}
 use Rattle.ecp_history.specs.table.Steps.{table_of}
@@ -18,7 +17,7 @@ use Rattle.ecp_coord.specs.declared.no_plan.NoPlan.{NoPlan}
 use Rattle.ecp_coord.specs.Calls.{Ends, IsFresh, ended}
 use Rattle.ecp_coord.specs.Coords.{CoordParts, IsCoord}
 use Rattle.ecp_coord.specs.Refusals.{Refuses}
-use Rattle.ecp_coord.specs.Plans.{refusal_of, sought}
+use Rattle.ecp_coord.specs.Plans.{AsksBlock, refusal_of, sought}
 use Rattle.ecp_coord.proofs.AttemptLaws.{state}
 use Rattle.ecp_coord.proofs.FollowLaws.{IsMet}
 use Rattle.ecp_coord.proofs.LoseLaws.{length_told}
@@ -26,14 +25,14 @@ use Rattle.ecp_coord.proofs.SeekLaws.{refusal_follows}
 
 module _ (shape : Shape) (told : Bool) (callers spares : ℕ) (s : SequencerState) (v : PassState) (p : CoordParts) (is : IsCoord shape told callers spares s p) (met : IsMet shape told callers spares s v) where
   -- a refusal may come next, as the pass and the sequencer are once they met
-  pub refuse_goes : (x : SequencerState) (q : PassState) → x ≡ s → q ≡ v → (name : List ℕ) (index : ℕ) → IsFresh v (deed.Read name index) → (why : NoPlan)
+  pub refuse_goes : (x : SequencerState) (q : PassState) → x ≡ s → q ≡ v → (asked : Deed) (name : List ℕ) (index : ℕ) → AsksBlock asked name index → IsFresh v asked → (why : NoPlan)
       → sought shape (table_of shape (history_of s.history)) name index ≡ Err why
-      → MatchOption (refusal_of why) ⊤ (λ what. MayFollow shape told (history_of x.history) (ended q (deed.Read name index) (length x.history) what))
-  refuse_goes x q same_x same_q name index fresh why found =
-      subst (λ (y : SequencerState). MatchOption (refusal_of why) ⊤ (λ what. MayFollow shape told (history_of y.history) (ended q (deed.Read name index) (length y.history) what))) (sym same_x)
-      (subst (λ (r : PassState). MatchOption (refusal_of why) ⊤ (λ what. MayFollow shape told (history_of s.history) (ended r (deed.Read name index) (length s.history) what))) (sym same_q)
-      (subst (λ (n : ℕ). MatchOption (refusal_of why) ⊤ (λ what. MayFollow shape told (history_of s.history) (ended v (deed.Read name index) n what))) (length_told s.history)
-      (refusal_follows shape told callers spares s v p.catalog name index is.range is.outline met is.idle fresh why found)))
+      → MatchOption (refusal_of why) ⊤ (λ what. MayFollow shape told (history_of x.history) (ended q asked (length x.history) what))
+  refuse_goes x q same_x same_q asked name index asks fresh why found =
+      subst (λ (y : SequencerState). MatchOption (refusal_of why) ⊤ (λ what. MayFollow shape told (history_of y.history) (ended q asked (length y.history) what))) (sym same_x)
+      (subst (λ (r : PassState). MatchOption (refusal_of why) ⊤ (λ what. MayFollow shape told (history_of s.history) (ended r asked (length s.history) what))) (sym same_q)
+      (subst (λ (n : ℕ). MatchOption (refusal_of why) ⊤ (λ what. MayFollow shape told (history_of s.history) (ended v asked n what))) (length_told s.history)
+      (refusal_follows shape told callers spares s v p.catalog asked name index asks is.range is.outline met is.idle fresh why found)))
 
 -- what was done, as it was before the meeting
 pub refuse_met : (shape : Shape) (told : Bool) (s x t : SequencerState) (v q w : PassState) → x ≡ s → q ≡ v → (asked : Deed) (said : Option Act)

@@ -26,7 +26,7 @@ use Rattle.ecp_coord.proofs.AnyLaws.{or_none, both_none}
 use Rattle.ecp_coord.proofs.FollowLaws.{of_hand}
 
 -- the number of the call that an item tells an entry of
-abbrev number_of : List ℕ → ℕ
+abbrev pub number_of : List ℕ → ℕ
 number_of x = (made_from x).entry.line.call
 
 -- whether an item tells the end of a call with this number
@@ -145,6 +145,52 @@ pub open_unended : (hand : ℕ) (history notes : Log) (c : Call) → Stands hist
 open_unended hand history notes c stands open_call =
     let all : IsUnended (facts_of notes) = to_the_end IsUnended hand history notes stands (unended_more hand history) 0 nothing_noted (omega arith) in
     of_open (λ (k : Call). list_any (ends_as k.number) (entries_noted notes) ≡ false) (facts_of notes).call c all.none open_call
+
+-- ---- the entries of the open call ask for what it asks for
+
+-- an entry of a call with this number is of this call
+abbrev pub AsksWith : Call → List ℕ → Type 0
+AsksWith c x = number_of x ≡ c.number → call_of (made_from x).entry ≡ c
+
+-- the entries are of calls that began; the open call began last, and those with its number are of it
+record IsAsked (f : HandFacts) : Type 0 where
+  below : All (λ x. number_of x < f.calls) f.entries
+  last : MatchOption f.call ⊤ (λ c. c.number + 1 ≡ f.calls)
+  asks : MatchOption f.call ⊤ (λ c. All (AsksWith c) f.entries)
+
+none_asked : IsAsked (facts_of [])
+none_asked = subst (λ (f : HandFacts). IsAsked f) (sym facts_of-none) (record { below = All-nil (λ x. number_of x < 0); last = tt; asks = tt })
+
+asked_more : (hand : ℕ) (history before : Log) (x : List ℕ) → IsAsked (facts_of before) → FitsNote hand history before x → IsAsked (after_note (facts_of before) x)
+asked_more hand history before x is fits =
+    let f : HandFacts = facts_of before in
+    let y : List ℕ = says_of x in
+    by_kind IsAsked f x
+    (λ same.
+    let rises : f.calls ≤ (call_from y).number = fits.rises same in
+    record {
+      below = All-weaker (λ z. number_of z < f.calls) (λ z. number_of z < (call_from y).number + 1) (λ z below. omega (arith, below, rises)) f.entries is.below;
+      last = refl;
+      asks = All-weaker (λ z. number_of z < f.calls) (AsksWith (call_from y)) (λ z below at. absurd (omega (arith, below, rises, at))) f.entries is.below;
+    })
+    (λ same.
+    let c : Call = call_of (made_from y).entry in
+    let open_call : f.call ≡ Some c = fits.of_call same in
+    let last : number_of y + 1 ≡ f.calls = of_open (λ (k : Call). k.number + 1 ≡ f.calls) f.call c is.last open_call in
+    let asks : All (AsksWith c) f.entries = of_open (λ (k : Call). All (AsksWith k) f.entries) f.call c is.asks open_call in
+    record {
+      below = All-push (λ z. number_of z < f.calls) f.entries y is.below (omega (arith, last));
+      last = or_ended (λ k. k.number + 1 ≡ f.calls) (ends_call y) f.call is.last;
+      asks = subst (λ (o : Option Call). MatchOption (cond (ends_call y) None o) ⊤ (λ k. All (AsksWith k) (f.entries ++ y ∷ []))) (sym open_call)
+          (or_ended (λ k. All (AsksWith k) (f.entries ++ y ∷ [])) (ends_call y) (Some c) (All-push (AsksWith c) f.entries y asks (λ at. refl)));
+    })
+    (record { below = is.below; last = is.last; asks = is.asks })
+
+-- each entry of the hand with the number of its open call is of this call
+pub open_asks : (hand : ℕ) (history notes : Log) (c : Call) → Stands history hand notes → (facts_of notes).call ≡ Some c → All (AsksWith c) (entries_noted notes)
+open_asks hand history notes c stands open_call =
+    let all : IsAsked (facts_of notes) = to_the_end IsAsked hand history notes stands (asked_more hand history) 0 none_asked (omega arith) in
+    of_open (λ (k : Call). All (AsksWith k) (entries_noted notes)) (facts_of notes).call c all.asks open_call
 
 -- ---- a call that was left open never has one
 

@@ -1,5 +1,7 @@
 pub mod Calls
 pub mod Losing
+pub mod Joining
+pub mod Stating
 pub mod Bookings
 pub mod Numbers
 pub mod Coords

@@ -130,14 +130,21 @@ sought shape t name index = option_map_or (λ f. sought_in shape t f index) (fil
 -- the name that is asked for has 1 to 64 bytes
 abbrev pub HasName : Ask → Type 0
 HasName (ask.Read name index) = (1 ≤ length name.now) × (length name.now ≤ MAX_NAME)
+HasName (ask.Sum name index) = (1 ≤ length name.now) × (length name.now ≤ MAX_NAME)
 
 -- what a call asks for that asks for this plan
 abbrev pub asked_by : Ask → Deed
 asked_by (ask.Read name index) = deed.Read name.now index
+asked_by (ask.Sum name index) = deed.Sum name.now index
+
+-- a call asks for this block: for its bytes, or for their digest
+abbrev pub AsksBlock : Deed → List ℕ → ℕ → Type 0
+AsksBlock asked name index = (asked ≡ deed.Read name index) ⊎ (asked ≡ deed.Sum name index)
 
 -- by a table: the block that is asked for, or why there is none
 abbrev pub sought_by : Shape → PlainTable → Ask → Result BlockName NoPlan
 sought_by shape t (ask.Read name index) = sought shape t name.now index
+sought_by shape t (ask.Sum name index) = sought shape t name.now index
 
 -- the act that says in the history why a call has no plan. Want of memory says nothing, and the others come of rebuilds, whose parts they end
 abbrev pub refusal_of : NoPlan → Option Act

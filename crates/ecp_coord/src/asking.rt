@@ -1,8 +1,7 @@
 //! The event that plans how the block is had that a call asks for.
 ghost use Rattle.std.specs.Prelude.{◌≡◌, ◌≤◌, Bool, IfErr, IfOk, List, MatchOption, [], length, ⊤};
-ghost use Rattle.ecp_shape.specs.declared.limits.TheConstants.{MAX_NAME};
+ghost use Rattle.ecp_shape.specs.declared.limits.TheConstants.{MAX_ROWS};
 ghost use Rattle.ecp_shape.specs.declared.shape.Shape.{Shape};
-ghost use Rattle.ecp_entry.specs.declared.deed.Deed.TheVariants as deed;
 ghost use Rattle.ecp_entry.specs.declared.entry.Entry.{Entry};
 ghost use Rattle.ecp_entry.specs.Told.{history_of};
 ghost use Rattle.ecp_history.specs.Fronts.{told_table};
@@ -14,7 +13,7 @@ ghost use Rattle.ecp_sequencer.specs.Sequencers.{Agrees};
 ghost use Rattle.ecp_sequencer.specs.Steps.{Event};
 ghost use Rattle.ecp_coord.specs.Calls.{Ends, IsFresh, IsOpen, ended};
 ghost use Rattle.ecp_coord.specs.Refusals.{Refuses};
-ghost use Rattle.ecp_coord.specs.Plans.{Answers, HasName, Plans, asked_by, is_recoverable, refusal_of, sought, sought_block, sought_by};
+ghost use Rattle.ecp_coord.specs.Plans.{Answers, AsksBlock, HasName, Plans, asked_by, is_recoverable, refusal_of, sought, sought_block, sought_by};
 
 use crate::coord::Coord;
 use crate::ending::end_call;
@@ -51,37 +50,40 @@ impl<N: Names> Coord<N> {
         ensures answer { Answers (sought_by N.shape (told_table N.shape self.old.sequence.history) ask.entry) result }
     {
         match ask {
-            Ask::Read { name, index } => self.plan_read(alloc, book, pass, name, index),
+            Ask::Read { name, index } => {
+                let name = Name::new(name);
+                let deed = Deed::Read { name, index };
+                self.plan_block(alloc, book, pass, deed, name, index)
+            }
+            Ask::Sum { name, index } => {
+                let name = Name::new(name);
+                let deed = Deed::Sum { name, index };
+                self.plan_block(alloc, book, pass, deed, name, index)
+            }
         }
     }
 
-    // Plans how the block is had that a read asks for.
-    fn plan_read(
+    // Plans how this block of a file is had, for which the deed asks.
+    fn plan_block(
         &mut self,
         alloc: Global,
         book: &Book<N>,
         pass: &mut Pass<N>,
-        name: &str,
+        deed: Deed,
+        name: Name,
         index: u32,
     ) -> Result<Plan<N>, NoPlan>
-        requires named { (1 ≤ length name.now) × (length name.now ≤ MAX_NAME) }
-        requires fresh { IsFresh pass.old (deed.Read name.now index) }
+        requires asks { AsksBlock deed name index }
+        requires fresh { IsFresh pass.old deed }
         ensures ok { IfOk result (λ plan. Plans N.shape N.told self.old pass.old plan self.new pass.new) }
-        ensures err { IfErr result (λ why. Refuses N.shape N.told self.old pass.old (deed.Read name.now index) (refusal_of why) self.new pass.new) }
-        ensures answer { Answers (sought N.shape (told_table N.shape self.old.sequence.history) name.now index) result }
+        ensures err { IfErr result (λ why. Refuses N.shape N.told self.old pass.old deed (refusal_of why) self.new pass.new) }
+        ensures answer { Answers (sought N.shape (told_table N.shape self.old.sequence.history) name index) result }
     {
-        let name = Name::new(name);
         self.sequencer.meet(book, pass);
         let block = match seek(&self.catalog, &name, index) {
             Ok(block) => block,
             Err(why) => {
-                refuse(
-                    &mut self.sequencer,
-                    book,
-                    pass,
-                    Deed::Read { name, index },
-                    why,
-                );
+                refuse(&mut self.sequencer, book, pass, deed, why);
                 return Err(why);
             }
         };
@@ -148,8 +150,9 @@ pub(crate) fn can_be_had<N: Names>(catalog: &Catalog<N>, block: BlockName) -> bo
 
 /// How many rows of a stripe are live.
 pub(crate) fn live_count<N: Names>(catalog: &Catalog<N>, stripe: u32) -> u32
-    ensures { (shape : Shape) (told : Bool) (history : List Entry) → IsOutline shape told catalog.now history →
+    ensures counted { (shape : Shape) (told : Bool) (history : List Entry) → IsOutline shape told catalog.now history →
         result ≡ live_rows (table_of shape history) stripe }
+    ensures few { result ≤ MAX_ROWS }
 {
     catalog.live_rows(stripe).as_slice().len() as u32
 }

@@ -9,8 +9,8 @@
 //! what it decided, and brings the catalog up to the longer history. The decisions are functions over the catalog alone.
 //!
 //! The layer above may rely on what each event says of the pass (`specs/Calls.antt`, and `Event` and `Called` of
-//! `ecp_sequencer`), on its answer by the table of the history before it (`specs/Losing.antt`), and on what `settle` and
-//! `close` teach at the end. Room is taken by `new` and `begin` alone.
+//! `ecp_sequencer`), on its answer by the table of the history before it (`specs/Losing.antt`, `specs/Joining.antt`,
+//! `specs/Stating.antt`), and on what `settle` and `close` teach at the end. Room is taken by `new` and `begin` alone.
 #![tactic(auto)]
 
 mod ask;
@@ -22,6 +22,7 @@ mod ending;
 mod finishing;
 mod giving_up;
 mod helping;
+mod joining;
 mod losing;
 mod no_places;
 mod no_plan;
@@ -38,6 +39,7 @@ mod replanning;
 mod reservation;
 mod reserving;
 mod start;
+mod stating;
 
 pub use ask::Ask;
 pub use coord::Coord;

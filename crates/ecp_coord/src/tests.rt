@@ -9,6 +9,7 @@ mod puts;
 mod reads;
 mod refusals;
 mod spine;
+mod stats;
 mod tries;
 mod unsteady;
 mod worked;

@@ -1,4 +1,4 @@
-ghost use Rattle.std.specs.Prelude.{◌≡◌, ◌<◌, [], length};
+ghost use Rattle.std.specs.Prelude.{◌≡◌, ◌^◌, ◌<◌, [], length};
 ghost use mathlib.Core.List.{IsPrefix};
 ghost use Rattle.ecp_shape.specs.declared.limits.TheConstants.{MAX_SESSIONS};
 ghost use Rattle.ecp_book.specs.Logs.{history_log};
@@ -54,6 +54,7 @@ impl<N: Names> Sequencer<N> {
         ensures session { pass.old.caller < MAX_SESSIONS }
         ensures own { pass.old.hand ≡ own_hand N.spare_hands pass.old.caller }
         ensures in_range { pass.old.hand < hands_of N.callers N.spare_hands }
+        ensures short { length self.old.history < 2 ^ 32 }
         ensures same { self.new ≡ self.old }
         ensures pass { pass.new ≡ pass.old }
     {

@@ -49,6 +49,39 @@ fn lost<N: Names, R: Abort>(rt: &R, alloc: Global, blank: Blank) -> Result<(), F
 }
 
 #[test]
+fn a_node_comes_up_once_and_only_where_it_is(rt: HostRuntime) -> Result<(), Fail> {
+    let blank = Blank::new(rt.alloc(), LOGS)?;
+    joined::<Brand, _>(&rt, rt.alloc(), blank)
+}
+
+fn joined<N: Names, R: Abort>(rt: &R, alloc: Global, blank: Blank) -> Result<(), Fail>
+    requires book { (blank ≡ N.book) × (logs_of blank ≡ LOGS) }
+    requires names { (N.callers ≡ CALLERS) × (N.spare_hands ≡ SPARE) × (N.shape ≡ SHAPE) }
+{
+    let Parts {
+        book,
+        mut coord,
+        mut passes,
+        nodes: _,
+    } = opened::<N>(alloc, blank)?;
+    let mut pass = passes.pop().ok_or("caller 1")?;
+    coord.begin(&book, &mut pass, Deed::Join { node: 0 })?;
+    let first = coord.join(&book, &mut pass, 0);
+    coord.begin(&book, &mut pass, Deed::Lose { node: 0 })?;
+    let second = coord.lose(&book, &mut pass, 0);
+    coord.begin(&book, &mut pass, Deed::Join { node: 0 })?;
+    let third = coord.join(&book, &mut pass, 0);
+    coord.begin(&book, &mut pass, Deed::Join { node: 2 })?;
+    let fourth = coord.join(&book, &mut pass, 2);
+    assert_eq!(rt; first, NodeAct::NodeUp);
+    assert_eq!(rt; second, NodeAct::Lost(0));
+    assert_eq!(rt; third, NodeAct::Joined(1));
+    assert_eq!(rt; fourth, NodeAct::NoSuchNode);
+    assert_eq!(rt; coord.close(&book, passes).len(), 4);
+    Ok(())
+}
+
+#[test]
 fn a_node_is_settled(rt: HostRuntime) -> Result<(), Fail> {
     let alloc = rt.alloc();
     let blank = Blank::new(alloc, LOGS)?;

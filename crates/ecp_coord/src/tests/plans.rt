@@ -12,12 +12,12 @@ use std::process::Abort;
 use std::test::Fail;
 
 #[test]
-fn a_read_of_no_file_ends(rt: HostRuntime) -> Result<(), Fail> {
+fn a_read_and_a_sum_of_no_file_end(rt: HostRuntime) -> Result<(), Fail> {
     let blank = Blank::new(rt.alloc(), LOGS)?;
-    read::<Brand, _>(&rt, rt.alloc(), blank)
+    unplanned::<Brand, _>(&rt, rt.alloc(), blank)
 }
 
-fn read<N: Names, R: Abort>(rt: &R, alloc: Global, blank: Blank) -> Result<(), Fail>
+fn unplanned<N: Names, R: Abort>(rt: &R, alloc: Global, blank: Blank) -> Result<(), Fail>
     requires book { (blank ≡ N.book) × (logs_of blank ≡ LOGS) }
     requires names { (N.callers ≡ CALLERS) × (N.spare_hands ≡ SPARE) × (N.shape ≡ SHAPE) }
 {
@@ -28,20 +28,19 @@ fn read<N: Names, R: Abort>(rt: &R, alloc: Global, blank: Blank) -> Result<(), F
         nodes: _,
     } = opened::<N>(alloc, blank)?;
     let mut pass = passes.pop().ok_or("caller 1")?;
-    let deed = Deed::Read {
-        name: Name::new("a"),
-        index: 0,
-    };
-    coord.begin(&book, &mut pass, deed)?;
-    let ask = Ask::Read {
-        name: "a",
-        index: 0,
-    };
-    let Err(why) = coord.plan(alloc, &book, &mut pass, ask) else {
+    let (name, index) = (Name::new("a"), 0);
+    coord.begin(&book, &mut pass, Deed::Read { name, index })?;
+    let ask = Ask::Read { name: "a", index };
+    let Err(read) = coord.plan(alloc, &book, &mut pass, ask) else {
         return Err("a file".into());
     };
-    assert_eq!(rt; why, NoPlan::NoSuchFile);
-    assert_eq!(rt; pass.front(&book).len(), 1);
-    assert_eq!(rt; coord.close(&book, passes).len(), 1);
+    coord.begin(&book, &mut pass, Deed::Sum { name, index })?;
+    let ask = Ask::Sum { name: "a", index };
+    let Err(sum) = coord.plan(alloc, &book, &mut pass, ask) else {
+        return Err("a file".into());
+    };
+    assert_eq!(rt; (read, sum), (NoPlan::NoSuchFile, NoPlan::NoSuchFile));
+    assert_eq!(rt; pass.front(&book).len(), 2);
+    assert_eq!(rt; coord.close(&book, passes).len(), 2);
     Ok(())
 }

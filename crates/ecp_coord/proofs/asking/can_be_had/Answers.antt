@@ -9,4 +9,4 @@ pub returns-else-is_live : goal.returns-else-is_live
 returns-else-is_live g c = λ shape told history is.
     lost_had shape (table_of shape history) c.args.block c.shape.result.k c.live_count.result
     (sym (live_same shape told c.args.catalog.now history is c.args.block.stripe c.args.block.row) ∙ sym c.is_live.ensures ∙ c.if-is_live.false)
-    (ap (λ (z : Shape). z.k) (c.shape.ensures.shape ∙ is.sizes)) (c.live_count.ensures shape told history is)
+    (ap (λ (z : Shape). z.k) (c.shape.ensures.shape ∙ is.sizes)) (c.live_count.ensures.counted shape told history is)

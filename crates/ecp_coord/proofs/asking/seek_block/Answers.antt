@@ -10,4 +10,4 @@ returns-then-can_be_had g c = λ shape told history is.
 pub returns-else-can_be_had : goal.returns-else-can_be_had
 returns-else-can_be_had g c = λ shape told history is.
     block_lost shape (table_of shape history) c.args.block c.live_count.result (sym (c.can_be_had.ensures shape told history is) ∙ c.if-can_be_had.false)
-    (c.live_count.ensures shape told history is)
+    (c.live_count.ensures.counted shape told history is)

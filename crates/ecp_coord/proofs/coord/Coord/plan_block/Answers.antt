@@ -2,8 +2,6 @@ use Rattle.std.proofs.Common.{◌≡◌, ℕ, ◌+◌, ◌<◌, Bool, List, [], 
 use Rattle.std.specs.Prelude.{All}
 use Rattle.ecp_shape.specs.declared.limits.TheConstants.{MAX_NODES}
 use Rattle.ecp_shape.specs.declared.shape.Shape.{Shape}
-use Rattle.ecp_entry.specs.declared.deed.Deed.{Deed}
-use Rattle.ecp_entry.specs.declared.deed.Deed.TheVariants as deed
 use Rattle.ecp_entry.specs.Told.{history_of}
 use Rattle.ecp_history.specs.table.Steps.{table_of}
 use Rattle.ecp_history.specs.declared.table.block_name.BlockName.{BlockName}
@@ -18,7 +16,7 @@ use Rattle.ecp_sequencer.specs.Sequencers.{Agrees, SequencerState}
 use Rattle.ecp_sequencer.specs.Steps.{Event}
 use Rattle.ecp_coord.specs.declared.planning.Making.{Making}
 use Rattle.ecp_coord.specs.Attempts.{IsFirst}
-use Rattle.ecp_coord.specs.Calls.{IsFresh, IsOpen}
+use Rattle.ecp_coord.specs.Calls.{IsOpen}
 use Rattle.ecp_coord.specs.Coords.{CoordParts, CoordState, IsCoord, heard, parts_of}
 use Rattle.ecp_coord.specs.Refusals.{Refuses}
 use Rattle.ecp_coord.specs.Plans.{Plans, planning_of, refusal_of, sought}
@@ -29,7 +27,8 @@ use Rattle.ecp_coord.proofs.FollowLaws.{IsMet}
 use Rattle.ecp_coord.proofs.KeepLaws.{with_catalog}
 use Rattle.ecp_coord.proofs.PlanningLaws.{event_met, refuse_goes, refuse_met, refuses_now}
 use Rattle.ecp_coord.proofs.RefuseLaws.{refused_kept}
-use Rattle.ecp_coord.proofs.coord.Coord.plan_read.Goals as goal
+use Rattle.ecp_coord.proofs.SeekLaws.{of_block}
+use Rattle.ecp_coord.proofs.coord.Coord.plan_block.Goals as goal
 
 pub refuse-requires-clause-agree : goal.refuse-requires-clause-agree
 refuse-requires-clause-agree g c =
@@ -39,11 +38,9 @@ refuse-requires-clause-agree g c =
 pub refuse-requires-clause-open : goal.refuse-requires-clause-open
 refuse-requires-clause-open g c =
     let v : PassState = c.args.pass.now in
-    let name : List ℕ = c.new-name.result in
+    let name : List ℕ = c.args.name in
     let index : ℕ = c.args.index in
-    let asked : deed.Read c.args.name.now index ≡ deed.Read name index = ap (λ (n : List ℕ). deed.Read n index) (sym c.new-name.ensures) in
-    let fresh : IsFresh v (deed.Read name index) = subst (λ (d : Deed). IsFresh v d) asked c.requires.fresh in
-    subst (λ (q : PassState). IsOpen q (deed.Read name index)) (sym c.meet.ensures.pass) fresh.is_open
+    subst (λ (q : PassState). IsOpen q c.args.deed) (sym c.meet.ensures.pass) c.requires.fresh.is_open
 
 pub refuse-requires-clause-follows : goal.refuse-requires-clause-follows
 refuse-requires-clause-follows g c =
@@ -61,11 +58,9 @@ refuse-requires-clause-follows g c =
       own = c.meet.ensures.own;
       in_range = c.meet.ensures.in_range;
     } in
-    let name : List ℕ = c.new-name.result in
+    let name : List ℕ = c.args.name in
     let index : ℕ = c.args.index in
-    let asked : deed.Read c.args.name.now index ≡ deed.Read name index = ap (λ (n : List ℕ). deed.Read n index) (sym c.new-name.ensures) in
-    let fresh : IsFresh v (deed.Read name index) = subst (λ (d : Deed). IsFresh v d) asked c.requires.fresh in
-    refuse_goes shape told callers spares s v p c.self.invariant met c.meet.new.self c.meet.new.pass c.meet.ensures.same c.meet.ensures.pass name index fresh c.in-Err.why
+    refuse_goes shape told callers spares s v p c.self.invariant met c.meet.new.self c.meet.new.pass c.meet.ensures.same c.meet.ensures.pass c.args.deed name index c.requires.asks c.requires.fresh c.in-Err.why
     (sym (c.in-Err.ensures shape told (history_of s.history) c.self.invariant.outline))
 
 pub invariant_of-self : goal.invariant_of-self
@@ -84,10 +79,10 @@ invariant_of-self g c =
       own = c.meet.ensures.own;
       in_range = c.meet.ensures.in_range;
     } in
-    let name : List ℕ = c.new-name.result in
+    let name : List ℕ = c.args.name in
     let index : ℕ = c.args.index in
-    let event = refuse_met shape told s c.meet.new.self c.refuse.new.sequencer v c.meet.new.pass c.refuse.new.pass c.meet.ensures.same c.meet.ensures.pass (deed.Read name index) (refusal_of c.in-Err.why) c.refuse.ensures.event in
-    refused_kept shape told callers spares s c.refuse.new.sequencer v c.refuse.new.pass p c.self.invariant met (open_fresh shape v.notes c.requires.fresh.none) (deed.Read name index) c.in-Err.why event
+    let event = refuse_met shape told s c.meet.new.self c.refuse.new.sequencer v c.meet.new.pass c.refuse.new.pass c.meet.ensures.same c.meet.ensures.pass c.args.deed (refusal_of c.in-Err.why) c.refuse.ensures.event in
+    refused_kept shape told callers spares s c.refuse.new.sequencer v c.refuse.new.pass p c.self.invariant met (open_fresh shape v.notes c.requires.fresh.none) c.args.deed c.in-Err.why event
 
 pub returns-in-Err-clause-err : goal.returns-in-Err-clause-err
 returns-in-Err-clause-err g c =
@@ -95,26 +90,24 @@ returns-in-Err-clause-err g c =
     let told : Bool = g.N.Names.told in
     let s : SequencerState = c.self.inside.sequencer in
     let v : PassState = c.args.pass.now in
-    let name : List ℕ = c.new-name.result in
+    let name : List ℕ = c.args.name in
     let index : ℕ = c.args.index in
-    let asked : deed.Read c.args.name.now index ≡ deed.Read name index = ap (λ (n : List ℕ). deed.Read n index) (sym c.new-name.ensures) in
-    let event = refuse_met shape told s c.meet.new.self c.refuse.new.sequencer v c.meet.new.pass c.refuse.new.pass c.meet.ensures.same c.meet.ensures.pass (deed.Read name index) (refusal_of c.in-Err.why) c.refuse.ensures.event in
+    let event = refuse_met shape told s c.meet.new.self c.refuse.new.sequencer v c.meet.new.pass c.refuse.new.pass c.meet.ensures.same c.meet.ensures.pass c.args.deed (refusal_of c.in-Err.why) c.refuse.ensures.event in
     let counted : c.refuse.new.pass.calls ≡ v.calls = c.refuse.ensures.calls ∙ ap (λ (q : PassState). q.calls) c.meet.ensures.pass in
-    subst (λ (x : CoordState). Refuses shape told x v (deed.Read c.args.name.now c.args.index) (refusal_of c.in-Err.why) (state c.refuse.new.sequencer c.self.inside.stamps c.self.inside.repairs c.self.inside.stripes c.self.inside.slice c.self.inside.cyclic (heard c.self.inside.nodes.items)) c.refuse.new.pass) c.self.view_is
-    (subst (λ (d : Deed). Refuses shape told (state s c.self.inside.stamps c.self.inside.repairs c.self.inside.stripes c.self.inside.slice c.self.inside.cyclic (heard c.self.inside.nodes.items)) v d (refusal_of c.in-Err.why) (state c.refuse.new.sequencer c.self.inside.stamps c.self.inside.repairs c.self.inside.stripes c.self.inside.slice c.self.inside.cyclic (heard c.self.inside.nodes.items)) c.refuse.new.pass) (sym asked)
+    subst (λ (x : CoordState). Refuses shape told x v c.args.deed (refusal_of c.in-Err.why) (state c.refuse.new.sequencer c.self.inside.stamps c.self.inside.repairs c.self.inside.stripes c.self.inside.slice c.self.inside.cyclic (heard c.self.inside.nodes.items)) c.refuse.new.pass) c.self.view_is
     (refuses_now shape told s c.refuse.new.sequencer v c.refuse.new.pass c.self.inside.stamps c.self.inside.repairs c.self.inside.stripes c.self.inside.slice c.self.inside.cyclic (heard c.self.inside.nodes.items)
-    (deed.Read name index) (refusal_of c.in-Err.why) event counted))
+    c.args.deed (refusal_of c.in-Err.why) event counted)
 
 pub returns-in-Err-clause-answer : goal.returns-in-Err-clause-answer
 returns-in-Err-clause-answer g c =
     let shape : Shape = g.N.Names.shape in
     let told : Bool = g.N.Names.told in
     let s : SequencerState = c.self.inside.sequencer in
-    let name : List ℕ = c.new-name.result in
+    let name : List ℕ = c.args.name in
     let index : ℕ = c.args.index in
     let t : PlainTable = table_of shape (history_of s.history) in
-    let by : sought shape (told_table shape c.args.self.now.sequence.history) c.args.name.now index ≡ sought shape t name index =
-    ap (λ (x : CoordState). sought shape (told_table shape x.sequence.history) c.args.name.now index) (sym c.self.view_is) ∙ ap (λ (n : List ℕ). sought shape t n index) (sym c.new-name.ensures) in
+    let by : sought shape (told_table shape c.args.self.now.sequence.history) name index ≡ sought shape t name index =
+    ap (λ (x : CoordState). sought shape (told_table shape x.sequence.history) name index) (sym c.self.view_is) in
     inr (by ∙ sym (c.in-Err.ensures shape told (history_of s.history) c.self.invariant.outline))
 
 pub first_attempt-made-requires-clause-agree : goal.first_attempt-made-requires-clause-agree
@@ -138,7 +131,7 @@ first_attempt-made-requires-clause-can g c =
       own = c.meet.ensures.own;
       in_range = c.meet.ensures.in_range;
     } in
-    let name : List ℕ = c.new-name.result in
+    let name : List ℕ = c.args.name in
     let index : ℕ = c.args.index in
     found_can shape told callers spares s v p c.self.invariant met name index c.in-Ok.block (sym (c.in-Ok.ensures shape told (history_of s.history) c.self.invariant.outline))
 
@@ -180,15 +173,14 @@ invariant_of-self-in-Ok-made g c =
       own = c.meet.ensures.own;
       in_range = c.meet.ensures.in_range;
     } in
-    let name : List ℕ = c.new-name.result in
+    let name : List ℕ = c.args.name in
     let index : ℕ = c.args.index in
-    let asked : deed.Read c.args.name.now index ≡ deed.Read name index = ap (λ (n : List ℕ). deed.Read n index) (sym c.new-name.ensures) in
-    let fresh : IsFresh v (deed.Read name index) = subst (λ (d : Deed). IsFresh v d) asked c.requires.fresh in
     let event = event_met shape told s c.meet.new.self c.first_attempt-made.new.sequencer v c.meet.new.pass c.first_attempt-made.new.pass c.meet.ensures.same c.meet.ensures.pass
     (note (length c.meet.new.self.history) ROOM (planning_of c.in-Ok-made.plan) ∷ []) c.in-Ok-made.ensures.ok in
     let event : Event shape told s v [] (note (length s.history) ROOM (planning_of c.in-Ok-made.plan) ∷ []) c.first_attempt-made.new.sequencer c.first_attempt-made.new.pass =
     subst (λ (x : SequencerState). Event shape told s v [] (note (length x.history) ROOM (planning_of c.in-Ok-made.plan) ∷ []) c.first_attempt-made.new.sequencer c.first_attempt-made.new.pass) c.meet.ensures.same event in
-    let made = planned_kept shape told callers spares s c.first_attempt-made.new.sequencer v c.first_attempt-made.new.pass p c.self.invariant met (deed.Read name index) ROOM c.in-Ok-made.plan fresh.is_open refl event in
+    let made = planned_kept shape told callers spares s c.first_attempt-made.new.sequencer v c.first_attempt-made.new.pass p c.self.invariant met c.args.deed ROOM c.in-Ok-made.plan c.requires.fresh.is_open
+    (of_block c.args.deed c.args.name c.args.index c.requires.asks).kind event in
     subst (λ (d : CatalogState). IsCoord shape told callers spares c.first_attempt-made.new.sequencer (with_catalog p d)) (sym c.first_attempt-made.ensures.kept) made
 
 pub returns-in-Ok-made-clause-ok : goal.returns-in-Ok-made-clause-ok
@@ -207,10 +199,8 @@ returns-in-Ok-made-clause-ok g c =
       own = c.meet.ensures.own;
       in_range = c.meet.ensures.in_range;
     } in
-    let name : List ℕ = c.new-name.result in
+    let name : List ℕ = c.args.name in
     let index : ℕ = c.args.index in
-    let asked : deed.Read c.args.name.now index ≡ deed.Read name index = ap (λ (n : List ℕ). deed.Read n index) (sym c.new-name.ensures) in
-    let fresh : IsFresh v (deed.Read name index) = subst (λ (d : Deed). IsFresh v d) asked c.requires.fresh in
     let making : Making = record { repair = c.self.inside.repairs; block = c.in-Ok.block; slice = c.self.inside.slice; cyclic = c.self.inside.cyclic } in
     let first : IsFirst c.self.inside.catalog c.self.inside.stamps.stamps making s.history c.in-Ok-made.plan =
     subst (λ (x : SequencerState). IsFirst c.self.inside.catalog c.self.inside.stamps.stamps making x.history c.in-Ok-made.plan) c.meet.ensures.same c.in-Ok-made.ensures.plan in
@@ -222,7 +212,7 @@ returns-in-Ok-made-clause-ok g c =
     let raised : IsRaised c.self.inside.stamps c.raise.new.self (map (λ h. h.node) c.in-Ok-made.plan.hops.items) =
     subst (λ xs. IsRaised c.self.inside.stamps c.raise.new.self (map (λ h. h.node) xs)) c.deref.ensures.value c.raise.ensures in
     let made = first_plans shape told callers spares s v p c.self.invariant met c.self.inside.stamps making c.in-Ok-made.plan first c.first_attempt-made.new.sequencer c.first_attempt-made.new.pass c.raise.new.self
-    c.self.inside.stripes (heard c.self.inside.nodes.items) name index fresh (sym (c.in-Ok.ensures shape told (history_of s.history) c.self.invariant.outline)) refl event counted raised in
+    c.self.inside.stripes (heard c.self.inside.nodes.items) c.args.deed name index c.requires.asks c.requires.fresh (sym (c.in-Ok.ensures shape told (history_of s.history) c.self.invariant.outline)) refl event counted raised in
     subst (λ (x : CoordState). Plans shape told x v c.in-Ok-made.plan (state c.first_attempt-made.new.sequencer c.raise.new.self (c.self.inside.repairs + 1) c.self.inside.stripes c.self.inside.slice c.self.inside.cyclic (heard c.self.inside.nodes.items)) c.first_attempt-made.new.pass) c.self.view_is made
 
 pub returns-in-Ok-made-clause-answer : goal.returns-in-Ok-made-clause-answer
@@ -230,14 +220,14 @@ returns-in-Ok-made-clause-answer g c =
     let shape : Shape = g.N.Names.shape in
     let told : Bool = g.N.Names.told in
     let s : SequencerState = c.self.inside.sequencer in
-    let name : List ℕ = c.new-name.result in
+    let name : List ℕ = c.args.name in
     let index : ℕ = c.args.index in
     let making : Making = record { repair = c.self.inside.repairs; block = c.in-Ok.block; slice = c.self.inside.slice; cyclic = c.self.inside.cyclic } in
     let first : IsFirst c.self.inside.catalog c.self.inside.stamps.stamps making s.history c.in-Ok-made.plan =
     subst (λ (x : SequencerState). IsFirst c.self.inside.catalog c.self.inside.stamps.stamps making x.history c.in-Ok-made.plan) c.meet.ensures.same c.in-Ok-made.ensures.plan in
     let t : PlainTable = table_of shape (history_of s.history) in
-    let by : sought shape (told_table shape c.args.self.now.sequence.history) c.args.name.now index ≡ sought shape t name index =
-    ap (λ (x : CoordState). sought shape (told_table shape x.sequence.history) c.args.name.now index) (sym c.self.view_is) ∙ ap (λ (n : List ℕ). sought shape t n index) (sym c.new-name.ensures) in
+    let by : sought shape (told_table shape c.args.self.now.sequence.history) name index ≡ sought shape t name index =
+    ap (λ (x : CoordState). sought shape (told_table shape x.sequence.history) name index) (sym c.self.view_is) in
     by ∙ sym (c.in-Ok.ensures shape told (history_of s.history) c.self.invariant.outline) ∙ ap (λ (b : BlockName). Ok b) (sym first.block)
 
 pub invariant_of-self-in-Err-made : goal.invariant_of-self-in-Err-made
@@ -268,6 +258,6 @@ returns-in-Err-made-clause-err g c =
     let v : PassState = c.args.pass.now in
     let event = event_met shape told s c.meet.new.self c.first_attempt-made.new.sequencer v c.meet.new.pass c.first_attempt-made.new.pass c.meet.ensures.same c.meet.ensures.pass [] c.in-Err-made.ensures.err in
     let counted : c.first_attempt-made.new.pass.calls ≡ v.calls = c.first_attempt-made.ensures.calls ∙ ap (λ (q : PassState). q.calls) c.meet.ensures.pass in
-    subst (λ (x : CoordState). Refuses shape told x v (deed.Read c.args.name.now c.args.index) None (state c.first_attempt-made.new.sequencer c.self.inside.stamps c.self.inside.repairs c.self.inside.stripes c.self.inside.slice c.self.inside.cyclic (heard c.self.inside.nodes.items)) c.first_attempt-made.new.pass) c.self.view_is
+    subst (λ (x : CoordState). Refuses shape told x v c.args.deed None (state c.first_attempt-made.new.sequencer c.self.inside.stamps c.self.inside.repairs c.self.inside.stripes c.self.inside.slice c.self.inside.cyclic (heard c.self.inside.nodes.items)) c.first_attempt-made.new.pass) c.self.view_is
     (refuses_now shape told s c.first_attempt-made.new.sequencer v c.first_attempt-made.new.pass c.self.inside.stamps c.self.inside.repairs c.self.inside.stripes c.self.inside.slice c.self.inside.cyclic
-    (heard c.self.inside.nodes.items) (deed.Read c.args.name.now c.args.index) None event counted)
+    (heard c.self.inside.nodes.items) c.args.deed None event counted)
