@@ -5,5 +5,6 @@ pub mod OpenLaws
 pub mod WorkLaws
 pub mod CallLaws
 pub mod ReadLaws
+pub mod SumLaws
 pub mod PutLaws
 pub mod KeepLaws

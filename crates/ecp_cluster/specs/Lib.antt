@@ -1,4 +1,5 @@
 pub mod Answered
+pub mod Summed
 pub mod Wiping
 pub mod Ended
 pub mod Opening

@@ -1,6 +1,9 @@
 //! The calls of a service, each with a pass of its caller.
 mod beginning;
+mod join;
 mod keeping;
 mod lose;
 mod put;
 mod read;
+mod stat;
+mod sum;

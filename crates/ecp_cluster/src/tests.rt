@@ -1,5 +1,6 @@
 mod closed_together;
 mod held;
+mod joined;
 mod lost;
 mod lost_in_flight;
 mod overtaken;
@@ -8,5 +9,7 @@ mod raised;
 mod reads_overlap;
 mod restarted;
 mod sizes;
+mod stats;
+mod sums;
 mod tally;
 mod unread;

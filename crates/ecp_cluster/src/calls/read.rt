@@ -1,12 +1,13 @@
 //! The call by which a block is read.
-ghost use Rattle.std.specs.Prelude.{◌≡◌, ◌≤◌, [], length, IfOk, IfErr, OnErr};
+ghost use Rattle.std.specs.Prelude.{◌≡◌, ◌≤◌, [], false, length, IfOk, IfErr, OnErr};
 ghost use Rattle.ecp_shape.specs.declared.limits.TheConstants.{MAX_NAME};
 ghost use Rattle.ecp_entry.specs.declared.deed.Deed.TheVariants.{Read};
 ghost use Rattle.ecp_coord.specs.Calls.{IsFresh};
-ghost use Rattle.ecp_coord.specs.Plans.{IsPlanned};
+ghost use Rattle.ecp_coord.specs.Plans.{HasName, IsPlanned, asked_by};
 ghost use Rattle.ecp_requestor.specs.Fetching.{Fetches, GoesOn, IsBlockOf};
 ghost use Rattle.ecp_cluster.specs.Answered.{Answered, FoundNone};
 ghost use Rattle.ecp_cluster.specs.Concluded.{Concludes, EndsUnplanned, GoesBy, IsPlannedFrom, ReadBy, WentOn};
+ghost use Rattle.ecp_cluster.specs.Summed.{no_digest};
 
 use crate::answer::Answer;
 use crate::service::Service;
@@ -37,6 +38,7 @@ impl<N: Names, S: Store + Drop, G: Gate> Service<N, S, G> {
         requires some { 1 ≤ length name.now }
         requires short { length name.now ≤ MAX_NAME }
         ensures ok { IfOk result (λ a. Answered N.shape N.told pass.old (Read name.now index) a.act a.bytes pass.new) }
+        ensures digest { IfOk result (λ a. (a.by_digest ≡ false) × (a.digest ≡ no_digest)) }
         ensures err { OnErr result (FoundNone pass.old pass.new) }
     {
         let deed = Deed::Read {
@@ -44,23 +46,23 @@ impl<N: Names, S: Store + Drop, G: Gate> Service<N, S, G> {
             index,
         };
         self.begin(rt, pass, deed)?;
-        self.read_on(rt, pass, name, index)
+        self.read_on(rt, pass, Ask::Read { name, index })
     }
 
-    // What becomes of a read that began.
-    fn read_on<R: Wait>(
+    /// What becomes of a call that began and asks for a block: the answer by the block's bytes.
+    pub(crate) fn read_on<R: Wait>(
         &self,
         rt: &R,
         pass: &mut Pass<N>,
-        name: &str,
-        index: u32,
+        ask: Ask<'_>,
     ) -> Result<Answer, NoMemory>
-        requires named { (1 ≤ length name.now) × (length name.now ≤ MAX_NAME) }
-        requires fresh { IsFresh pass.old (Read name.now index) }
-        ensures ok { IfOk result (λ a. Concludes N.shape N.told pass.old (Read name.now index) a.act a.bytes pass.new) }
+        requires named { HasName ask }
+        requires fresh { IsFresh pass.old (asked_by ask) }
+        ensures ok { IfOk result (λ a. Concludes N.shape N.told pass.old (asked_by ask.entry) a.act a.bytes pass.new) }
+        ensures digest { IfOk result (λ a. (a.by_digest ≡ false) × (a.digest ≡ no_digest)) }
         ensures err { OnErr result (WentOn pass.old pass.new) }
     {
-        match self.plan_read(rt, pass, name, index) {
+        match self.plan_read(rt, pass, ask) {
             Ok(plan) => self.read_by(rt, pass, plan),
             Err(NoPlan::NoSuchFile) => Ok(self.only(Act::NoSuchFile)),
             Err(NoPlan::NoSuchBlock(count)) => Ok(self.only(Act::NoSuchBlock(count))),
@@ -71,24 +73,22 @@ impl<N: Names, S: Store + Drop, G: Gate> Service<N, S, G> {
         }
     }
 
-    // The plan of a read, under the coordinator's lock.
+    /// The plan of a block that is asked for, under the coordinator's lock.
     pub(crate) fn plan_read<R: Wait>(
         &self,
         rt: &R,
         pass: &mut Pass<N>,
-        name: &str,
-        index: u32,
+        ask: Ask<'_>,
     ) -> Result<Plan<N>, NoPlan>
-        requires named { (1 ≤ length name.now) × (length name.now ≤ MAX_NAME) }
-        requires fresh { IsFresh pass.old (Read name.now index) }
-        ensures ok { IfOk result (λ plan. IsPlannedFrom N.shape N.told pass.old (Read name.now index) plan pass.new) }
-        ensures err { IfErr result (λ why. EndsUnplanned N.shape N.told pass.old (Read name.now index) why pass.new) }
+        requires named { HasName ask }
+        requires fresh { IsFresh pass.old (asked_by ask) }
+        ensures ok { IfOk result (λ plan. IsPlannedFrom N.shape N.told pass.old (asked_by ask.entry) plan pass.new) }
+        ensures err { IfErr result (λ why. EndsUnplanned N.shape N.told pass.old (asked_by ask.entry) why pass.new) }
     {
-        let ask = Ask::Read { name, index };
         self.coord.lock(rt).plan(self.alloc, &self.book, pass, ask)
     }
 
-    // What becomes of a read that has this plan.
+    // What becomes of a call that has this plan.
     fn read_by<R: Wait>(
         &self,
         rt: &R,
@@ -97,6 +97,7 @@ impl<N: Names, S: Store + Drop, G: Gate> Service<N, S, G> {
     ) -> Result<Answer, NoMemory>
         requires { IsPlanned N.shape N.told pass.old plan }
         ensures ok { IfOk result (λ a. ReadBy N.shape N.told pass.old plan a.act a.bytes pass.new) }
+        ensures digest { IfOk result (λ a. (a.by_digest ≡ false) × (a.digest ≡ no_digest)) }
         ensures err { OnErr result (GoesBy N.shape N.told pass.old plan pass.new) }
     {
         match self.fetch_by(rt, pass, plan)? {
@@ -145,7 +146,8 @@ impl<N: Names, S: Store + Drop, G: Gate> Service<N, S, G> {
     ) -> Answer
         requires planned { IsPlanned N.shape N.told pass.old plan }
         requires block { IsBlockOf N.shape N.told plan block }
-        ensures { ReadBy N.shape N.told pass.old plan result.act result.bytes pass.new }
+        ensures read { ReadBy N.shape N.told pass.old plan result.act result.bytes pass.new }
+        ensures digest { (result.by_digest ≡ false) × (result.digest ≡ no_digest) }
     {
         self.coord
             .lock(rt)
@@ -153,16 +155,21 @@ impl<N: Names, S: Store + Drop, G: Gate> Service<N, S, G> {
         Answer {
             act: Act::Data,
             bytes: Block::new(block.into_bytes()),
+            by_digest: false,
+            digest: [0; 32],
         }
     }
 
     // An answer without bytes.
     fn only(&self, act: Act) -> Answer
-        ensures { (result.act ≡ act) × (result.bytes ≡ []) }
+        ensures act { (result.act ≡ act) × (result.bytes ≡ []) }
+        ensures digest { (result.by_digest ≡ false) × (result.digest ≡ no_digest) }
     {
         Answer {
             act,
             bytes: Block::new(Vec::new(self.alloc)),
+            by_digest: false,
+            digest: [0; 32],
         }
     }
 }

@@ -10,7 +10,7 @@ use super::sizes::{
 };
 use crate::{Pass, Service};
 use ecp_book::{Blank, Book, Names};
-use ecp_coord::Replanned;
+use ecp_coord::{Ask, Replanned};
 use ecp_entry::{Act, Deed, Name};
 use ecp_helper::OpenGate;
 use ecp_plan::Plan;
@@ -67,7 +67,11 @@ fn fetched<N: Names, S: Store + Drop, R: Abort + Wait>(
     service.lose(rt, pass, 0)?;
     let name = Name::new("a");
     service.begin(rt, pass, Deed::Read { name, index: 0 })?;
-    let Ok(plan) = service.plan_read(rt, pass, "a", 0) else {
+    let ask = Ask::Read {
+        name: "a",
+        index: 0,
+    };
+    let Ok(plan) = service.plan_read(rt, pass, ask) else {
         return Err("plan".into());
     };
     let crew = Losing {

@@ -13,14 +13,14 @@ returns-in_err-plan-clause-err g c =
 pub returns-in-Whole-clause-ok : goal.returns-in-Whole-clause-ok
 returns-in-Whole-clause-ok g c = λ v asked from.
     let fetched = subst (λ (f : Fetched g.row.N.Denot). Fetches g.N.Names.shape g.N.Names.told c.args.pass.now c.args.plan c.fetch_by.new.pass f) c.in-Whole.is c.in_ok-plan.ensures.ok in
-    c.give.ensures v asked (goes_on_from g.N.Names.shape g.N.Names.told v c.args.pass.now asked c.args.plan from c.in-Whole.plan c.fetch_by.new.pass fetched.0)
+    c.give.ensures.read v asked (goes_on_from g.N.Names.shape g.N.Names.told v c.args.pass.now asked c.args.plan from c.in-Whole.plan c.fetch_by.new.pass fetched.0)
 
 pub returns-in-Unrecoverable-clause-ok : goal.returns-in-Unrecoverable-clause-ok
 returns-in-Unrecoverable-clause-ok g c = λ v asked from.
     let fetched = subst (λ (f : Fetched g.row.N.Denot). Fetches g.N.Names.shape g.N.Names.told c.args.pass.now c.args.plan c.fetch_by.new.pass f) c.in-Unrecoverable.is c.in_ok-plan.ensures.ok in
-    ended_by g.N.Names.shape g.N.Names.told v c.args.pass.now asked c.args.plan from (act.Unrecoverable c.in-Unrecoverable.live) c.only.result.act c.only.result.bytes c.fetch_by.new.pass fetched c.only.ensures.0 c.only.ensures.1
+    ended_by g.N.Names.shape g.N.Names.told v c.args.pass.now asked c.args.plan from (act.Unrecoverable c.in-Unrecoverable.live) c.only.result.act c.only.result.bytes c.fetch_by.new.pass fetched c.only.ensures.act.0 c.only.ensures.act.1
 
 pub returns-in-Unsteady-clause-ok : goal.returns-in-Unsteady-clause-ok
 returns-in-Unsteady-clause-ok g c = λ v asked from.
     let fetched = subst (λ (f : Fetched g.row.N.Denot). Fetches g.N.Names.shape g.N.Names.told c.args.pass.now c.args.plan c.fetch_by.new.pass f) c.in-Unsteady.is c.in_ok-plan.ensures.ok in
-    ended_by g.N.Names.shape g.N.Names.told v c.args.pass.now asked c.args.plan from (act.Unsteady c.in-Unsteady.voids.at) c.only-in-Unsteady.result.act c.only-in-Unsteady.result.bytes c.fetch_by.new.pass fetched c.only-in-Unsteady.ensures.0 c.only-in-Unsteady.ensures.1
+    ended_by g.N.Names.shape g.N.Names.told v c.args.pass.now asked c.args.plan from (act.Unsteady c.in-Unsteady.voids.at) c.only-in-Unsteady.result.act c.only-in-Unsteady.result.bytes c.fetch_by.new.pass fetched c.only-in-Unsteady.ensures.act.0 c.only-in-Unsteady.ensures.act.1
