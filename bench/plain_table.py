@@ -3,8 +3,11 @@
 
 Reads an input on standard input and writes the replies and the journal. It knows no code: a file block is one of
 the data blocks, and a lost one can be had while k rows of its stripe are live."""
+import hashlib
 import sys
 from dataclasses import dataclass
+
+from judging.generator import generate
 
 
 @dataclass
@@ -17,7 +20,7 @@ class Stripe:
 class Table:
     def __init__(self, head):
         self.k, self.n, self.block = head["k"], head["n"], head["block"]
-        self.up = [True] * head["nodes"]
+        self.up, self.incs = [True] * head["nodes"], [0] * head["nodes"]
         self.files, self.stripes = {}, []
 
     def put(self, name, data):
@@ -37,7 +40,8 @@ class Table:
         reply = f"stored {first} {len(self.stripes) - first}"
         return reply, f"{reply} {sum(1 << node for node in up)}"
 
-    def read(self, name, index):
+    def find(self, name, index):
+        """The bytes of a block, or the reply that says why there are none; and the act."""
         if name not in self.files:
             return "no-file", "no-file"
         length, first = self.files[name]
@@ -48,7 +52,7 @@ class Table:
         live = sum(stripe.live)
         if not stripe.live[row] and live < self.k:
             return (f"unrecoverable {live}",) * 2
-        return f"data {stripe.data[row].hex()}", "data"
+        return stripe.data[row], "data"
 
     def lose(self, node):
         if node >= len(self.up):
@@ -64,12 +68,42 @@ class Table:
                     count += 1
         return (f"lost {count}",) * 2
 
+    def join(self, node):
+        if node >= len(self.up):
+            return "no-node", "no-node"
+        if self.up[node]:
+            return "node-up", "node-up"
+        self.up[node] = True
+        self.incs[node] += 1
+        return (f"joined {self.incs[node]}",) * 2
+
+    def stat(self, name):
+        if name not in self.files:
+            return "no-file", "no-file"
+        length, first = self.files[name]
+        stripes = self.stripes[first : first + -(-length // (self.k * self.block))]
+        return (f"stat {length} {-(-length // self.block)} {sum(sum(stripe.live) for stripe in stripes)}",) * 2
+
+    def read(self, name, index):
+        found, act = self.find(name, index)
+        return (f"data {found.hex()}" if act == "data" else found), act
+
+    def sum(self, name, index):
+        found, act = self.find(name, index)
+        return (f"sum {hashlib.sha256(found).hexdigest()}" if act == "data" else found), act
+
     def serve(self, words):
-        if words[0] == "put":
-            return self.put(words[1], b"" if words[3] == "-" else bytes.fromhex(words[3]))
-        if words[0] == "read":
-            return self.read(words[1], int(words[2]))
-        return self.lose(int(words[1]))
+        match words:
+            case "put", name, "hex", digits:
+                return self.put(name, b"" if digits == "-" else bytes.fromhex(digits))
+            case "put", name, "gen", seed, length:
+                return self.put(name, generate(int(seed), int(length)))
+            case ("read" | "sum") as kind, name, index:
+                return getattr(self, kind)(name, int(index))
+            case "stat", name:
+                return self.stat(name)
+            case kind, node:
+                return getattr(self, kind)(int(node))
 
 
 def main():

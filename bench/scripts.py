@@ -59,11 +59,13 @@ def some(seed):
         kind = draw.random()
         if kind < 0.35:
             size = draw.choice([0, 1, 5, k * block, 3 * k * block + 1, draw.randint(0, 60)])
-            yield f"put f{draw.randint(0, 6)} hex {draw.randbytes(size).hex() or '-'}\n"
+            yield f"put f{draw.randint(0, 6)} {content(draw, size, ('gen', 'hex'))}\n"
+        elif kind < 0.7:
+            yield f"{draw.choice(['read', 'sum'])} f{draw.randint(0, 7)} {draw.randint(0, 12)}\n"
         elif kind < 0.8:
-            yield f"read f{draw.randint(0, 7)} {draw.randint(0, 12)}\n"
+            yield f"stat f{draw.randint(0, 7)}\n"
         else:
-            yield f"lose {draw.randint(0, nodes)}\n"
+            yield f"{draw.choice(['lose', 'join'])} {draw.randint(0, nodes)}\n"
 
 
 def settings(draw, block):
@@ -80,9 +82,8 @@ def content(draw, size, contents):
 
 KINDS = {"put": 6, "read": 4, "sum": 3, "cat": 4, "lose": 3, "join": 3, "rebuild": 4, "stat": 2}
 
-# Those forms that the program serves, and where its puts get their bytes.
-SERVED = {"put": 6, "read": 8, "lose": 2}
-SERVED_CONTENT = ("hex",)
+# Those forms that the program serves.
+SERVED = {kind: often for kind, often in KINDS.items() if kind not in ("cat", "rebuild")}
 
 
 def call(draw, size, nodes, kinds, contents):
@@ -128,7 +129,7 @@ def main(words):
         sys.stdout.writelines(at_once(*map(int, words[1:])))
         return
     kinds = {"calls": calls, "puts": puts, "reads": reads}
-    seeded = {"random": some, "sessions": sessions, "served": lambda seed: sessions(seed, SERVED, SERVED_CONTENT)}
+    seeded = {"random": some, "sessions": sessions, "served": lambda seed: sessions(seed, SERVED)}
     lines = seeded[words[0]](int(words[1])) if words[0] in seeded else kinds[words[0]]()
     sys.stdout.writelines(lines)
 

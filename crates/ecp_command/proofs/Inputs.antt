@@ -4,6 +4,7 @@ pub mod Gathering
 pub mod Joined
 pub mod Keyed
 pub mod OneForm
+pub mod Recipes
 pub mod Scripts
 pub mod Spelled
 pub mod Spending

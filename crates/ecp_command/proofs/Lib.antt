@@ -1,3 +1,4 @@
 pub mod Decimals
+pub mod Generating
 pub mod Inputs
 pub mod WordLists

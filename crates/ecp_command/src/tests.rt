@@ -1,4 +1,6 @@
-use super::{Call, Command, Head, Input, Refusal, Setting, Subject, command, read_input};
+use super::{
+    Call, Command, Head, Input, Planned, Refusal, Setting, Subject, command, generate, read_input,
+};
 use ecp_shape::limits::MAX_INPUT;
 use std::alloc::{AllocError, Global};
 use std::test::Fail;
@@ -179,7 +181,21 @@ fn refuses_a_line_without_a_form(rt: HostRuntime) -> Result<(), Fail> {
         "put a hex --",
         "put a/b hex 41",
         "put a Hex 41",
-        "put a gen 0 1",
+        "put a gen",
+        "put a gen ",
+        "put a gen 0",
+        "put a gen 0 ",
+        "put a gen 0 1 ",
+        "put a gen 0 01",
+        "put a gen 00 1",
+        "put a gen +1 1",
+        "put a gen -1 1",
+        "put a gen 0 -",
+        "put a gen 18446744073709551616 1",
+        "put a gen 0 4294967296",
+        "put a  gen 0 1",
+        "put a gen  0 1",
+        "put a Gen 0 1",
         "read a 0\r",
         " read a 0",
         "read a 0 ",
@@ -194,6 +210,11 @@ fn refuses_a_line_without_a_form(rt: HostRuntime) -> Result<(), Fail> {
         "lose",
         "lose ",
         "lose 1 2",
+        "join",
+        "join ",
+        "join 01",
+        "join 1 2",
+        "joined 1",
         "session 8",
         "session 08",
         "session",
@@ -202,11 +223,17 @@ fn refuses_a_line_without_a_form(rt: HostRuntime) -> Result<(), Fail> {
         "barrier 1",
         "session barrier",
         "Barrier",
-        "join 0",
         "rebuild 0 1",
-        "sum a 0",
         "cat a",
-        "stat a",
+        "sum a",
+        "sum a 01",
+        "sum a 4294967296",
+        "sum a/b 0",
+        "sums a 0",
+        "stat",
+        "stat ",
+        "stat a 0",
+        "stat a/b",
         "Read a 0",
         "read aaaaaaaaaabbbbbbbbbbccccccccccddddddddddeeeeeeeeeeffffffffff12345 0",
     ] {
@@ -266,6 +293,96 @@ fn keeps_the_limits_of_one_put(rt: HostRuntime) -> Result<(), Fail> {
             "past {times}"
         );
     }
+    let head = mirror(alloc, "65536")?;
+    let at_limit = format!(in alloc; "{head}put a gen 0 4194304")?;
+    assert_eq!(rt; refusal(alloc, at_limit.as_bytes()), None);
+    let past_it = format!(in alloc; "{head}put a gen 0 4194305")?;
+    assert_eq!(rt; refusal(alloc, past_it.as_bytes()), Some(Refusal::Line(6)));
+    Ok(())
+}
+
+#[test]
+fn generates_the_bytes_of_a_seed(rt: HostRuntime) -> Result<(), Fail> {
+    let alloc = rt.alloc();
+    for (seed, len, want) in [
+        (0, 1, b"\x14".as_slice()),
+        (1, 1, b"\x6c".as_slice()),
+        (0, 0, b"".as_slice()),
+        (0, 8, b"\x14\x1a\x9a\x66\x62\x8f\x14\x5b".as_slice()),
+        (7, 8, b"\x7e\xf4\xe8\x45\x44\x23\x67\x52".as_slice()),
+        (u64::MAX, 8, b"\xbb\xb1\x8f\x6b\xf8\x9f\x9a\xa5".as_slice()),
+    ] {
+        assert_eq!(rt; generate(alloc, seed, len)?.bytes(), want, "of {seed}");
+    }
+    Ok(())
+}
+
+#[test]
+fn reads_a_generated_put(rt: HostRuntime) -> Result<(), Fail> {
+    let alloc = rt.alloc();
+    let script = "put a gen 1 8\nput a gen 18446744073709551615 8\nput e gen 7 0\n";
+    let input = accepted(alloc, input(alloc, script)?.as_str())?;
+    let [session] = input.sessions.as_slice() else {
+        return Err(Fail::from("one session"));
+    };
+    let [
+        Planned {
+            call: Call::Put { name, bytes },
+            ..
+        },
+        Planned {
+            call: Call::Put { bytes: last, .. },
+            ..
+        },
+        Planned {
+            call: Call::Put { bytes: none, .. },
+            ..
+        },
+    ] = session.calls.as_slice()
+    else {
+        return Err(Fail::from("three puts"));
+    };
+    assert_eq!(rt; name.bytes(), b"a".as_slice());
+    assert_eq!(rt;
+        bytes.bytes(),
+        b"\x6c\x82\xa5\x62\xcb\x80\x8d\x10".as_slice()
+    );
+    assert_eq!(rt;
+        last.bytes(),
+        b"\xbb\xb1\x8f\x6b\xf8\x9f\x9a\xa5".as_slice()
+    );
+    assert_eq!(rt; none.len(), 0);
+    Ok(())
+}
+
+#[test]
+fn reads_what_is_asked_of_a_file(rt: HostRuntime) -> Result<(), Fail> {
+    let alloc = rt.alloc();
+    let input = accepted(
+        alloc,
+        input(alloc, "sum a.B_-9 4294967295\nstat b\n")?.as_str(),
+    )?;
+    let [session] = input.sessions.as_slice() else {
+        return Err(Fail::from("one session"));
+    };
+    let [
+        Planned {
+            call: Call::Sum { name, index },
+            ..
+        },
+        Planned {
+            call: Call::Stat { name: other },
+            ..
+        },
+    ] = session.calls.as_slice()
+    else {
+        return Err(Fail::from("a sum and a stat"));
+    };
+    assert_eq!(rt;
+        (name.bytes(), *index),
+        (b"a.B_-9".as_slice(), 4_294_967_295)
+    );
+    assert_eq!(rt; other.bytes(), b"b".as_slice());
     Ok(())
 }
 
@@ -306,15 +423,15 @@ fn reads_the_settings_with_their_defaults(rt: HostRuntime) -> Result<(), Fail> {
 fn reads_the_calls_of_a_script(rt: HostRuntime) -> Result<(), Fail> {
     let alloc = rt.alloc();
     let script =
-        "# a comment\n\nsession 7\nput a.B_-9 hex 4aFf\nput e hex -\n#\nread a 7\nlose 4294967295\nsession 3\n";
+        "# a comment\n\nsession 7\nput a.B_-9 hex 4aFf\nput e hex -\n#\nread a 7\nlose 4294967295\njoin 4294967295\nsession 3\n";
     let input = accepted(alloc, input(alloc, script)?.as_str())?;
     assert_eq!(rt; input.phases, 1);
     let [session] = input.sessions.as_slice() else {
         return Err(Fail::from("one session"));
     };
     assert_eq!(rt; session.number, 7);
-    let [first, second, third, fourth] = session.calls.as_slice() else {
-        return Err(Fail::from("four calls"));
+    let [first, second, third, fourth, fifth] = session.calls.as_slice() else {
+        return Err(Fail::from("five calls"));
     };
     let (Call::Put { name, bytes }, Call::Put { bytes: none, .. }) = (&first.call, &second.call)
     else {
@@ -328,6 +445,14 @@ fn reads_the_calls_of_a_script(rt: HostRuntime) -> Result<(), Fail> {
         matches!(
             fourth.call,
             Call::Lose {
+                node: 4_294_967_295
+            }
+        )
+    );
+    assert!(rt;
+        matches!(
+            fifth.call,
+            Call::Join {
                 node: 4_294_967_295
             }
         )

@@ -9,7 +9,7 @@ mod numbers;
 
 pub use commands::Command;
 use ecp_shape::limits::MAX_ROWS;
-pub(crate) use numbers::number;
+pub(crate) use numbers::{number, wide_number};
 
 /// What the words of a command line ask for, or None where they are none of the forms.
 pub fn command(words: &[String]) -> Option<Command<'_>>

@@ -84,11 +84,11 @@ call_servable : (line : List ℕ) (call : the_call.Call) → SpellsCall line cal
 call_servable line (Put name bytes) h small = (short_name name h.0, small)
 call_servable line (Read name index) h small = short_name name h.0
 call_servable line (Lose node) h small = tt
-call_servable line (Sum name index) h small = h
+call_servable line (Sum name index) h small = short_name name h.0
 call_servable line (Cat name) h small = h
-call_servable line (Join node) h small = h
+call_servable line (Join node) h small = tt
 call_servable line (Rebuild from to) h small = h
-call_servable line (Stat name) h small = h
+call_servable line (Stat name) h small = short_name name h.0
 
 each_servable : (number session phase : ℕ) (script : List (ℕ × List ℕ)) (forms : List Form) → SpellEach script forms → AllByRecursion (λ f. limits.put_len f ≤ MAX_PUT_BYTES) forms
     → EachServable (its number (calls_from session phase forms))

@@ -4,6 +4,7 @@ mod Asked
 mod Stopping
 mod Sending
 mod JournalLines
+mod AnswerLaws
 mod AnswerLines
 mod ReplyLines
 mod Sessions

@@ -6,14 +6,12 @@ use Rattle.std.proofs.lemmas.List.{length-append}
 use Rattle.std.proofs.lemmas.Bool.{ltb-false, ltb-true}
 use Rattle.std.proofs.lemmas.Option.{none-some, same_Some, slice_get_past, slice_get_read}
 use Rattle.ecp_book.proofs.Prefixes.{prefix_length, prefix_self, prefix_trans}
-use Rattle.ecp_cluster.specs.Answered.{Answered}
 use Rattle.ecp_cluster.specs.declared.answer.Answer.{Answer}
 use Rattle.ecp_command.specs.declared.input.planned.Planned.{Planned}
 use Rattle.ecp_sequencer.specs.Passes.{PassState}
-use Rattle.ecp_service.specs.Asked.{deed_of}
 use Rattle.ecp_service.specs.Callers.{IsPast, ServedOf}
 use Rattle.ecp_service.specs.Servable.{EachServable, IsServable}
-use Rattle.ecp_service.specs.Served.{Grown, Served, ServedOne, entered_bytes}
+use Rattle.ecp_service.specs.Served.{AnsweredCall, Grown, Served, ServedOne}
 use Rattle.ecp_shape.specs.declared.shape.Shape.{Shape}
 
 -- each of calls that are served
@@ -67,19 +65,19 @@ module _ (shape : Shape) (told : Bool) where
   -- one more call
   pub of_push : (phase : ℕ) (v : PassState) (calls : List Planned) (answers : List Answer) (u : PassState) (p : Planned) (a : Answer) (w : PassState)
       → ServedOf shape told phase v calls answers u → slice_get calls (length answers) ≡ Some p → p.phase ≡ phase
-      → Answered shape told u (deed_of p.call) a.act (entered_bytes p.call a) w → ServedOf shape told phase v calls (answers ++ a ∷ []) w
+      → AnsweredCall shape told u p.call a w → ServedOf shape told phase v calls (answers ++ a ∷ []) w
   of_push phase v [] [] u p a w served next its one = absurd (none-some p next)
   of_push phase v (q ∷ calls) [] u p a w served next its one =
       let is : q ≡ p = same_Some q p next in
-      let from : Answered shape told v (deed_of p.call) a.act (entered_bytes p.call a) w = subst (λ (x : PassState). Answered shape told x (deed_of p.call) a.act (entered_bytes p.call a) w) served one in
-      (ap (λ (x : Planned). x.phase) is ∙ its, w, subst (λ (x : Planned). Answered shape told v (deed_of x.call) a.act (entered_bytes x.call a) w) (sym is) from, refl)
+      let from : AnsweredCall shape told v p.call a w = subst (λ (x : PassState). AnsweredCall shape told x p.call a w) served one in
+      (ap (λ (x : Planned). x.phase) is ∙ its, w, subst (λ (x : Planned). AnsweredCall shape told v x.call a w) (sym is) from, refl)
   of_push phase v [] (b ∷ answers) u p a w served next its one = absurd served
   of_push phase v (q ∷ calls) (b ∷ answers) u p a w served next its one =
       (served.0, served.1, served.2, of_push phase served.1 calls answers u p a w served.3 next its one)
 
   pub next_push : (phase : ℕ) (v : PassState) (calls : List Planned) (old given answers : List Answer) (u : PassState) (p : Planned) (a : Answer) (w : PassState)
       → answers ≡ old ++ given → ServedOf shape told phase v (drop (length old) calls) given u → slice_get calls (length answers) ≡ Some p → p.phase ≡ phase
-      → Answered shape told u (deed_of p.call) a.act (entered_bytes p.call a) w → ServedOf shape told phase v (drop (length old) calls) (given ++ a ∷ []) w
+      → AnsweredCall shape told u p.call a w → ServedOf shape told phase v (drop (length old) calls) (given ++ a ∷ []) w
   next_push phase v calls old given answers u p a w are served next its one =
       let long : length answers ≡ length old + length given = ap (λ (xs : List Answer). length xs) are ∙ length-append old given in
       let rest : slice_get (drop (length old) calls) (length answers - length old) ≡ Some p = past_drop calls (length old) (length answers) (omega (arith, long)) ∙ next in
@@ -93,7 +91,7 @@ module _ (shape : Shape) (told : Bool) where
   of_grows phase v calls [] w served = subst (λ (x : PassState). IsPrefix v.front x.front) (sym served) (prefix_self v.front)
   of_grows phase v [] (a ∷ answers) w served = absurd served
   of_grows phase v (p ∷ calls) (a ∷ answers) w served =
-      prefix_trans v.front served.1.front w.front served.2.called.steps.extends (of_grows phase served.1 calls answers w served.3)
+      prefix_trans v.front served.1.front w.front served.2.answered.called.steps.extends (of_grows phase served.1 calls answers w served.3)
 
   -- ---- the calls of several phases
 
@@ -105,7 +103,7 @@ module _ (shape : Shape) (told : Bool) where
   from_grown fences phase v u (p ∷ calls) (a ∷ answers) w grown begun ended served =
       let t : PassState = served.1 in
       let rest : IsPrefix t.front w.front = of_grows phase t calls answers w served.3 in
-      let first : IsPrefix u.front t.front = served.2.called.steps.extends in (
+      let first : IsPrefix u.front t.front = served.2.answered.called.steps.extends in (
         t,
         record {
           from = u;

@@ -3,13 +3,11 @@ use Rattle.std.specs.Prelude.{◌≡◌, ◌≢◌, ℕ, ◌<◌, ◌≤◌, Boo
 use mathlib.Core.List.{IsPrefix}
 use Rattle.ecp_book.specs.Logs.{Log}
 use Rattle.ecp_cluster.specs.declared.answer.Answer.{Answer}
-use Rattle.ecp_cluster.specs.Answered.{Answered}
 use Rattle.ecp_command.specs.Input.Calls.{SessionCalls}
 use Rattle.ecp_command.specs.declared.input.planned.Planned.{Planned}
 use Rattle.ecp_sequencer.specs.Passes.{PassState, first_pass}
-use Rattle.ecp_service.specs.Asked.{deed_of}
 use Rattle.ecp_service.specs.Servable.{AreRising, EachServable}
-use Rattle.ecp_service.specs.Served.{Grown, Served, calls_by, entered_bytes}
+use Rattle.ecp_service.specs.Served.{AnsweredCall, Grown, Served, calls_by}
 use Rattle.ecp_service.specs.declared.serving.caller.Caller.{Caller}
 use Rattle.ecp_service.specs.declared.serving.replies.Replies.{Replies}
 use Rattle.ecp_shape.specs.declared.shape.Shape.{Shape}
@@ -36,9 +34,9 @@ abbrev pub ServedOf : Shape → Bool → ℕ → PassState → List Planned → 
 ServedOf shape told phase v calls [] w = w ≡ v
 ServedOf shape told phase v [] (a ∷ answers) w = ⊥
 ServedOf shape told phase v (p ∷ calls) (a ∷ answers) w =
-    (p.phase ≡ phase) × (u : PassState) × Answered shape told v (deed_of p.call) a.act (entered_bytes p.call a) u × ServedOf shape told phase u calls answers w
+    (p.phase ≡ phase) × (u : PassState) × AnsweredCall shape told v p.call a u × ServedOf shape told phase u calls answers w
 
--- the first of these calls is not of this phase, where there is one
+-- the call at this place is not of this phase, where there is one
 abbrev pub IsPast : ℕ → List Planned → ℕ → Type 0
 IsPast phase calls at = MatchOption (slice_get calls at) ⊤ (λ p. p.phase ≢ phase)
 

@@ -17,12 +17,12 @@ pub record IsShortName (name : List ℕ) : Type 0 where
 abbrev pub IsServable : Call → Type 0
 IsServable (Put name bytes) = IsShortName name × (length bytes ≤ MAX_PUT_BYTES)
 IsServable (Read name index) = IsShortName name
+IsServable (Sum name index) = IsShortName name
 IsServable (Lose node) = Unit {0}
-IsServable (Sum name index) = ⊥
+IsServable (Join node) = Unit {0}
+IsServable (Stat name) = IsShortName name
 IsServable (Cat name) = ⊥
-IsServable (Join node) = ⊥
 IsServable (Rebuild from to) = ⊥
-IsServable (Stat name) = ⊥
 
 -- each of these calls is
 abbrev pub EachServable : List Planned → Type 0

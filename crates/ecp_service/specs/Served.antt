@@ -1,16 +1,18 @@
 -- How the sessions of an input were served over nodes, and what is written of it.
-use Rattle.std.specs.Prelude.{◌≡◌, ℕ, ◌+◌, ◌<◌, ◌≤◌, ◌==◌, Bool, if◌then◌else◌, List, [], ◌∷◌, ◌++◌, length, find, flat_map, slice_get, slice_index_or, codes, Contains}
+use Rattle.std.specs.Prelude.{◌≡◌, ℕ, ◌+◌, ◌<◌, ◌≤◌, ◌==◌, Bool, true, false, if◌then◌else◌, List, [], ◌∷◌, ◌++◌, length, find, flat_map, slice_get, slice_index_or, codes, Contains}
 use Rattle.std.specs.Option.{option_map_or}
 use mathlib.Core.List.{IsPrefix}
 use Rattle.ecp_cluster.specs.declared.answer.Answer.{Answer}
 use Rattle.ecp_cluster.specs.Answered.{Answered}
 use Rattle.ecp_cluster.specs.Puts.{bytes_stored}
+use Rattle.ecp_cluster.specs.Summed.{digest_of}
 use Rattle.ecp_command.specs.Input.Calls.{SessionCalls}
 use Rattle.ecp_command.specs.declared.input.call.Call.{Call}
-use Rattle.ecp_command.specs.declared.input.call.Call.TheVariants.{Put}
+use Rattle.ecp_command.specs.declared.input.call.Call.TheVariants.{Put, Read, Sum}
 use Rattle.ecp_command.specs.declared.input.planned.Planned.{Planned}
 use Rattle.ecp_entry.specs.ReplyText.{reply_line}
 use Rattle.ecp_entry.specs.declared.line.Line.{Line}
+use Rattle.ecp_entry.specs.declared.reply.Reply.{Reply}
 use Rattle.ecp_entry.specs.declared.reply.Reply.TheVariants as reply
 use Rattle.ecp_history.specs.Parts.{is_data}
 use Rattle.ecp_sequencer.specs.Passes.{PassState, first_pass}
@@ -19,10 +21,19 @@ use Rattle.ecp_service.specs.RunLines.{count_line, lines_from, session_line}
 use Rattle.ecp_service.specs.declared.serving.replies.Replies.{Replies}
 use Rattle.ecp_shape.specs.declared.shape.Shape.{Shape}
 
--- the bytes of the entry of a call that was answered so
-abbrev pub entered_bytes : Call → Answer → List ℕ
-entered_bytes (Put name bytes) a = bytes_stored a.act bytes
-entered_bytes _ a = a.bytes
+-- These are the bytes of the entry of a call that was answered so: those of a file that is stored are the call's, and those of a block are
+-- the answer's, or are what it has the digest of
+abbrev pub Gives : Call → Answer → List ℕ → Type 0
+Gives (Put name bytes) a entered = entered ≡ bytes_stored a.act bytes
+Gives (Read name index) a entered = (entered ≡ a.bytes) × (a.by_digest ≡ false)
+Gives (Sum name index) a entered = (a.by_digest ≡ true) × (a.digest ≡ digest_of a.act entered)
+Gives _ a entered = entered ≡ a.bytes
+
+-- the next call of a pass was answered so: the pass went from v to w
+pub record AnsweredCall (shape : Shape) (told : Bool) (v : PassState) (call : Call) (a : Answer) (w : PassState) : Type 0 where
+  pub entered : List ℕ
+  pub answered : Answered shape told v (deed_of call) a.act entered w
+  pub gives : Gives call a entered
 
 -- a pass is as it was, but that its front may have grown
 pub record Grown (v w : PassState) : Type 0 where
@@ -35,7 +46,7 @@ pub record ServedOne (shape : Shape) (told : Bool) (fences : ℕ → ℕ) (v : P
   pub from : PassState
   pub grown : Grown v from
   pub begun : fences p.phase ≤ length from.front
-  pub answered : Answered shape told from (deed_of p.call) a.act (entered_bytes p.call a) w
+  pub answered : AnsweredCall shape told from p.call a w
   pub ended : length w.front ≤ fences (p.phase + 1)
 
 -- the first of the calls, as many as there are answers, were answered so, one after another: a pass went from v to w
@@ -58,9 +69,13 @@ pub record EachServed (shape : Shape) (told : Bool) (spares callers : ℕ) (sess
   pub served : (c : ℕ) (p : PassState) → c < callers → Served shape told fences (first_pass spares c) (calls_by sessions c) (answers c) (slice_index_or passes c p)
   pub whole : (c : ℕ) → c < callers → length (answers c) ≡ length (calls_by sessions c)
 
--- the reply line to a call that was answered so
+-- the reply to a call that was answered so
+abbrev pub reply_for : Answer → Reply
+reply_for a = if is_data a.act then (if a.by_digest then reply.Sum else reply.Data) else reply.Ended a.act
+
+-- its line
 abbrev pub answer_line : Answer → List ℕ
-answer_line a = reply_line (if is_data a.act then reply.Data else reply.Ended a.act) a.bytes []
+answer_line a = reply_line (reply_for a) a.bytes a.digest
 
 -- a line for the session, and one for each of its answers
 abbrev pub session_replies : (ℕ → List Answer) → SessionCalls → List ℕ

@@ -1,4 +1,4 @@
-ghost use Rattle.std.specs.Prelude.{◌≡◌, ◌≤◌, [], length, take};
+ghost use Rattle.std.specs.Prelude.{◌≡◌, ◌≤◌, ◌++◌, [], codes, length, take};
 ghost use Rattle.hex.specs.Hex.{encode_lower};
 ghost use Rattle.ecp_entry.specs.ReplyText.{reply_line, reply_start};
 ghost use Rattle.ecp_entry.specs.declared.reply.Reply.TheVariants as reply;
@@ -53,6 +53,20 @@ pub(crate) fn write_start<W: Sink>(
     buffer.write(out, text.bytes())
 }
 
+/// Writes a reply line that ends in hexadecimal: of these bytes.
+fn write_with_hex<W: Sink>(
+    buffer: &mut Buffer,
+    out: &mut W,
+    reply: &Reply,
+    bytes: &[u8],
+) -> Result<(), Failed>
+    ensures { Writes W.Sink result (out.old, buffer.old) (out.new, buffer.new) (reply_start reply.now ++ (encode_lower bytes.now ++ codes "\n")) }
+{
+    write_start(buffer, out, reply)?;
+    write_hex(buffer, out, bytes)?;
+    buffer.write(out, b"\n")
+}
+
 /// Writes the reply line that answers the bytes of a block.
 pub(crate) fn write_data<W: Sink>(
     buffer: &mut Buffer,
@@ -61,7 +75,16 @@ pub(crate) fn write_data<W: Sink>(
 ) -> Result<(), Failed>
     ensures { Writes W.Sink result (out.old, buffer.old) (out.new, buffer.new) (reply_line reply.Data bytes.now []) }
 {
-    write_start(buffer, out, &Reply::Data)?;
-    write_hex(buffer, out, bytes)?;
-    buffer.write(out, b"\n")
+    write_with_hex(buffer, out, &Reply::Data, bytes)
+}
+
+/// Writes the reply line that answers the digest of a block.
+pub(crate) fn write_sum<W: Sink>(
+    buffer: &mut Buffer,
+    out: &mut W,
+    digest: &[u8; 32],
+) -> Result<(), Failed>
+    ensures { Writes W.Sink result (out.old, buffer.old) (out.new, buffer.new) (reply_line reply.Sum [] digest.now) }
+{
+    write_with_hex(buffer, out, &Reply::Sum, digest)
 }

@@ -1,6 +1,8 @@
 -- Reading a script line by line.
 use Rattle.std.proofs.Common.{◌≡◌, ℕ, ◌+◌, ◌<◌, ◌≤◌, true, false, cond, not, List, [], ◌∷◌, ◌++◌, length, refl, sym, ap, subst, ◌∙◌, append_assoc, arith}
 use Rattle.std.proofs.lemmas.List.{append-nil, map-append}
+use Rattle.std.specs.List.{AllByRecursion}
+use Rattle.ecp_shape.specs.declared.limits.TheConstants.{MAX_PUT_BYTES}
 use Rattle.ecp_command.specs.declared.input.form.Form.{Form}
 use Rattle.ecp_command.specs.declared.input.head.Head.{Head}
 use Rattle.ecp_command.specs.declared.input.numbered.Numbered.{Numbered}
@@ -10,7 +12,7 @@ use Rattle.ecp_command.specs.declared.input.script.Script.{Script}
 use Rattle.ecp_command.specs.Input.Accepted.{RefusesForm}
 use Rattle.ecp_command.specs.Input.Cuts.{IsClear, IsCut}
 use Rattle.ecp_command.specs.Input.Forms.{Spells, SpellEach}
-use Rattle.ecp_command.specs.Input.Limits.{KeepLimits}
+use Rattle.ecp_command.specs.Input.Limits.{KeepLimits, put_len}
 use Rattle.ecp_command.specs.Input.Lines.{lines, numbered, is_skipped}
 use Rattle.ecp_command.specs.Input.Script.{forms_of, numbers_of, HasRead, MayRefuseForm}
 use Rattle.ecp_command.specs.Input.Totals.{AreTotals}
@@ -67,6 +69,23 @@ refuses head before script number line f h skip s over = record {
   forms = forms_of script.forms.items;
   has_forms = record { spelled = h.read.spelled; within = h.totals.keep };
   refused = λ g spells keep. over (subst (λ (x : Form). KeepLimits head (forms_of script.forms.items ++ x ∷ [])) (one_form line g f spells s) keep);
+}
+
+last_of : (P : Form → Type 0) (fs : List Form) (f : Form) → AllByRecursion P (fs ++ f ∷ []) → P f
+last_of P [] f h = h.0
+last_of P (g ∷ fs) f h = last_of P fs f h.1
+
+-- a line is refused that has no form, or only one that puts too much
+pub refuses_any : (head : Head) (before : List (ℕ × List ℕ)) (script : Script) (number : ℕ) (line : List ℕ) → HasRead head before script → is_skipped line ≡ false
+    → ((f : Form) → Spells line f → put_len f ≤ MAX_PUT_BYTES → ⊥) → RefusesForm head (before ++ numbered number (line ∷ [])) number
+refuses_any head before script number line h skip none = record {
+  before = before;
+  line = line;
+  after = [];
+  whole = ap (λ (ls : List (ℕ × List ℕ)). before ++ ls) (one_numbered number line skip);
+  forms = forms_of script.forms.items;
+  has_forms = record { spelled = h.read.spelled; within = h.totals.keep };
+  refused = λ f spells keep. none f spells (last_of (λ (g : Form). put_len g ≤ MAX_PUT_BYTES) (forms_of script.forms.items) f keep.each_bytes);
 }
 
 -- ---- the lines that were read

@@ -1,13 +1,14 @@
-ghost use Rattle.std.specs.Prelude.{◌≡◌, ◌↔◌, ◌++◌, ℕ, List, IsTrue, IfOk, MatchOption, codes};
+ghost use Rattle.std.specs.Prelude.{◌≡◌, ◌↔◌, ◌++◌, IsTrue, IfOk, codes};
 ghost use Rattle.ecp_command.specs.Input.Cuts.{IsClear};
-ghost use Rattle.ecp_command.specs.Input.Forms.{is_name_byte, IsName, IsHex, IsFormOf};
+ghost use Rattle.ecp_command.specs.Input.Forms.{is_name_byte, IsName, IsBlockNamed, IsHex, IsRecipe, GiveBytes, AreBytesOf, IsFormOf};
 
+use crate::generated::generate;
 use crate::input::call::Call;
 use crate::input::cuts::cut;
 use crate::input::form::Form;
-use crate::words::number;
+use crate::words::{number, wide_number};
 use ecp_history::Text;
-use ecp_shape::limits::{MAX_NAME, MAX_SESSIONS};
+use ecp_shape::limits::{MAX_NAME, MAX_PUT_BYTES, MAX_SESSIONS};
 use ecp_store::{Block, NoMemory};
 use hex::FromHexError;
 use std::alloc::Global;
@@ -19,12 +20,19 @@ const PUT: &[u8] = b"put";
 
 const READ: &[u8] = b"read";
 
+const SUM: &[u8] = b"sum";
+
 const LOSE: &[u8] = b"lose";
+
+const JOIN: &[u8] = b"join";
+
+const STAT: &[u8] = b"stat";
 
 // The one form without a second word.
 const BARRIER: &[u8] = b"barrier";
 
-/// The form of a line, or None where it has none of them. Each form has its word here.
+/// The form of a line, or None where it has none of them or puts more bytes than a put may have. Each form has its word
+/// here.
 pub(crate) fn form_of(alloc: Global, line: &[u8]) -> Result<Option<Form>, NoMemory>
     ensures { IfOk result (IsFormOf line.now) }
 {
@@ -37,8 +45,14 @@ pub(crate) fn form_of(alloc: Global, line: &[u8]) -> Result<Option<Form>, NoMemo
         put(alloc, rest)
     } else if word == READ {
         read(alloc, rest)
+    } else if word == SUM {
+        sum(alloc, rest)
     } else if word == LOSE {
         Ok(lose(rest))
+    } else if word == JOIN {
+        Ok(join(rest))
+    } else if word == STAT {
+        stat(alloc, rest)
     } else {
         Ok(None)
     }
@@ -68,20 +82,17 @@ fn session(rest: &[u8]) -> Option<Form>
     }
 }
 
-// `put NAME hex H`
+// `put NAME hex H` and `put NAME gen SEED LEN`
 fn put(alloc: Global, rest: &[u8]) -> Result<Option<Form>, NoMemory>
     ensures { IfOk result (IsFormOf (codes "put " ++ rest.now)) }
 {
-    let Some((name, how)) = cut(rest, b' ') else {
-        return Ok(None);
-    };
-    let Some(digits) = how.strip_prefix(b"hex ") else {
+    let Some((name, words)) = cut(rest, b' ') else {
         return Ok(None);
     };
     if !is_name(name) {
         return Ok(None);
     }
-    let Some(bytes) = bytes_of(alloc, digits)? else {
+    let Some(bytes) = bytes_of(alloc, words)? else {
         return Ok(None);
     };
     let name = Text::new(Vec::from_slice(alloc, name)?);
@@ -92,7 +103,27 @@ fn put(alloc: Global, rest: &[u8]) -> Result<Option<Form>, NoMemory>
 fn read(alloc: Global, rest: &[u8]) -> Result<Option<Form>, NoMemory>
     ensures { IfOk result (IsFormOf (codes "read " ++ rest.now)) }
 {
-    let Some((name, index)) = cut(rest, b' ') else {
+    match block_named(alloc, rest)? {
+        Some((name, index)) => Ok(Some(Form::Call(Call::Read { name, index }))),
+        None => Ok(None),
+    }
+}
+
+// `sum NAME I`
+fn sum(alloc: Global, rest: &[u8]) -> Result<Option<Form>, NoMemory>
+    ensures { IfOk result (IsFormOf (codes "sum " ++ rest.now)) }
+{
+    match block_named(alloc, rest)? {
+        Some((name, index)) => Ok(Some(Form::Call(Call::Sum { name, index }))),
+        None => Ok(None),
+    }
+}
+
+// The file and the number of the block that the words `NAME I` name.
+fn block_named(alloc: Global, words: &[u8]) -> Result<Option<(Text, u32)>, NoMemory>
+    ensures { IfOk result (IsBlockNamed words.now) }
+{
+    let Some((name, index)) = cut(words, b' ') else {
         return Ok(None);
     };
     if !is_name(name) {
@@ -101,8 +132,7 @@ fn read(alloc: Global, rest: &[u8]) -> Result<Option<Form>, NoMemory>
     let Some(index) = number(index) else {
         return Ok(None);
     };
-    let name = Text::new(Vec::from_slice(alloc, name)?);
-    Ok(Some(Form::Call(Call::Read { name, index })))
+    Ok(Some((Text::new(Vec::from_slice(alloc, name)?), index)))
 }
 
 // `lose NODE`
@@ -113,6 +143,27 @@ fn lose(rest: &[u8]) -> Option<Form>
         Some(node) => Some(Form::Call(Call::Lose { node })),
         None => None,
     }
+}
+
+// `join NODE`
+fn join(rest: &[u8]) -> Option<Form>
+    ensures { IsFormOf (codes "join " ++ rest.now) result }
+{
+    match number(rest) {
+        Some(node) => Some(Form::Call(Call::Join { node })),
+        None => None,
+    }
+}
+
+// `stat NAME`
+fn stat(alloc: Global, rest: &[u8]) -> Result<Option<Form>, NoMemory>
+    ensures { IfOk result (IsFormOf (codes "stat " ++ rest.now)) }
+{
+    if !is_name(rest) {
+        return Ok(None);
+    }
+    let name = Text::new(Vec::from_slice(alloc, rest)?);
+    Ok(Some(Form::Call(Call::Stat { name })))
 }
 
 // Whether the text can name a file.
@@ -128,10 +179,42 @@ fn is_name_byte(b: u8) -> bool
     matches!(b, b'a'..=b'z' | b'A'..=b'Z' | b'0'..=b'9' | b'.' | b'_' | b'-')
 }
 
+// The bytes that the words behind a name give.
+fn bytes_of(alloc: Global, words: &[u8]) -> Result<Option<Block>, NoMemory>
+    ensures { IfOk result (AreBytesOf (GiveBytes words.now)) }
+{
+    if let Some(digits) = words.strip_prefix(b"hex ") {
+        decoded(alloc, digits)
+    } else if let Some(recipe) = words.strip_prefix(b"gen ") {
+        made(alloc, recipe)
+    } else {
+        Ok(None)
+    }
+}
+
+// The bytes of the generator for a seed and a length. Where the length is more than a put may have none are made.
+fn made(alloc: Global, recipe: &[u8]) -> Result<Option<Block>, NoMemory>
+    ensures { IfOk result (AreBytesOf (IsRecipe recipe.now)) }
+{
+    let Some((seed, len)) = cut(recipe, b' ') else {
+        return Ok(None);
+    };
+    let Some(seed) = wide_number(seed) else {
+        return Ok(None);
+    };
+    let Some(len) = number(len) else {
+        return Ok(None);
+    };
+    if u64::from(len) > MAX_PUT_BYTES {
+        return Ok(None);
+    }
+    let bytes = generate(alloc, seed, len)?;
+    Ok(Some(bytes))
+}
+
 // The bytes that the digits stand for, or None where they are no digits.
-fn bytes_of(alloc: Global, digits: &[u8]) -> Result<Option<Block>, NoMemory>
-    ensures { IfOk result (λ found.
-        MatchOption found ((bytes : List ℕ) → IsHex digits.now bytes → ⊥) (IsHex digits.now)) }
+fn decoded(alloc: Global, digits: &[u8]) -> Result<Option<Block>, NoMemory>
+    ensures { IfOk result (AreBytesOf (IsHex digits.now)) }
 {
     if digits == b"-".as_slice() {
         return Ok(Some(Block::new(Vec::new(alloc))));

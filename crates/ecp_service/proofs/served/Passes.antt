@@ -25,7 +25,7 @@ use Rattle.ecp_sequencer.specs.Passes.{PassState}
 use Rattle.ecp_sequencer.specs.Steps as steps
 use Rattle.ecp_sequencer.specs.Steps.{Steps, call_with}
 use Rattle.ecp_service.specs.Asked.{deed_of, put_stripes}
-use Rattle.ecp_service.specs.Served.{Served, ServedOne, entered_bytes}
+use Rattle.ecp_service.specs.Served.{Gives, Served, ServedOne}
 use Rattle.ecp_service.proofs.served.Fronts.{StandsLast, stands_last}
 
 -- the entry of a call that was answered so
@@ -35,7 +35,7 @@ pub record IsReply (c n : ℕ) (p : Planned) (a : Answer) (e : Entry) : Type 0 w
   pub last : e.line.part ≡ part.End
   pub deed : e.deed ≡ Some (deed_of p.call)
   pub act : e.line.act ≡ a.act
-  pub bytes : e.bytes ≡ entered_bytes p.call a
+  pub gives : Gives p.call a e.bytes
 
 -- one entry for each call from a number on, in their order
 abbrev pub AreReplies : ℕ → ℕ → List Planned → List Answer → List Entry → Type 0
@@ -68,9 +68,9 @@ pub record Went (fences : ℕ → ℕ) (history : Log) (v : PassState) (calls : 
   pub grows : IsPrefix v.front w.front
 
 -- the entry of one call
-one_reply : (shape : Shape) (told : Bool) (v u : PassState) (p : Planned) (a : Answer) (is : Answered shape told v (deed_of p.call) a.act (entered_bytes p.call a) u)
-    → IsReply v.caller v.calls p a is.entry
-one_reply shape told v u p a is =
+one_reply : (shape : Shape) (told : Bool) (v u : PassState) (p : Planned) (a : Answer) (entered : List ℕ) (is : Answered shape told v (deed_of p.call) a.act entered u)
+    → Gives p.call a entered → IsReply v.caller v.calls p a is.entry
+one_reply shape told v u p a entered is gives =
     let own : steps.IsOfCall v.caller (call_with v.calls (deed_of p.call)) is.entry = All-head (steps.IsOfCall v.caller (call_with v.calls (deed_of p.call))) is.entry [] is.called.own in
     record {
       caller = own.by;
@@ -78,7 +78,7 @@ one_reply shape told v u p a is =
       last = is.called.ends;
       deed = ap (λ (k : Call). k.deed) own.of_call;
       act = is.act;
-      bytes = is.bytes;
+      gives = subst (Gives p.call a) (sym is.bytes) gives;
     }
 
 pub went : (shape : Shape) (told : Bool) (fences : ℕ → ℕ) (history : Log) (v w : PassState) (calls : List Planned) (answers : List Answer) → IsPrefix w.front history
@@ -99,13 +99,14 @@ went shape told fences history v w (p ∷ calls) (a ∷ answers) begins long ser
     let u : PassState = served.0 in
     let one : ServedOne shape told fences v p a u = served.1 in
     let t : PassState = record v { front = one.from.front } in
-    let its : Answered shape told t (deed_of p.call) a.act (entered_bytes p.call a) u =
-    subst (λ (x : PassState). Answered shape told x (deed_of p.call) a.act (entered_bytes p.call a) u) one.grown.same one.answered in
+    let entered : List ℕ = one.answered.entered in
+    let its : Answered shape told t (deed_of p.call) a.act entered u =
+    subst (λ (x : PassState). Answered shape told x (deed_of p.call) a.act entered u) one.grown.same one.answered.answered in
     let rest : Went fences history u calls answers w = went shape told fences history u w calls answers begins (omega (arith, long)) served.2 in
     let step : Steps t (its.entry ∷ []) its.called.more u = its.called.steps in
     let noted_one : entries_noted u.notes ≡ entries_noted v.notes ++ item v.hand its.entry ∷ [] =
     sym step.settled ∙ step.entered ∙ ap (λ (xs : List (List ℕ)). xs ++ item v.hand its.entry ∷ []) step.known in
-    let first : IsReply v.caller v.calls p a its.entry = one_reply shape told t u p a its in
+    let first : IsReply v.caller v.calls p a its.entry = one_reply shape told t u p a entered its one.answered.gives in
     let last : StandsLast u.front history its.entry = stands_last v.hand u.front history its.entry its.called.stands (prefix_trans u.front w.front history rest.grows begins) in
     let late : length t.front ≤ its.entry.line.point = All-head (λ (e : Entry). length t.front ≤ e.line.point) its.entry [] its.called.late in
     record {

@@ -42,7 +42,7 @@ module _ (shape : Shape) (content : Content) (answers : ℕ → List Answer) (hi
       let fits : FitsCall (kind_for told.planned.call) AtEnd told.answer.act = reply_fits shape history i e.line.caller e.line.call told.planned told.answer e legal here told.reply in
       let is : IsOfCall e told.planned = record {
         deed = told.reply.deed;
-        bytes = λ stored. told.reply.bytes ∙ stored_is told.planned.call told.answer fits (ap is_stored (sym told.reply.act) ∙ stored);
+        bytes = λ stored. stored_is told.planned.call told.answer _ told.reply.gives fits (ap is_stored (sym told.reply.act) ∙ stored);
       } in
       subst (λ (o : Option Planned). IsSomeAnd o (IsOfCall e)) (sym told.asked) is
 

@@ -26,7 +26,7 @@ use Rattle.ecp_service.specs.RunLines.{count_line, lines_from}
 use Rattle.ecp_service.specs.RunText.{cause_of, digested, ending_reply, journal_text, opened_len, reply_to, run_text, session_text}
 use Rattle.ecp_service.specs.Served.{answer_line, served_text, session_replies}
 use Rattle.ecp_service.proofs.served.Entries.{HasCaller, HasCallers, HasEntry, has_entry, its_end}
-use Rattle.ecp_service.proofs.served.Fits.{data_is, kind_for, replied, same_line}
+use Rattle.ecp_service.proofs.served.Fits.{data_act, kind_for, replied, same_line, simple_reply}
 use Rattle.ecp_service.proofs.served.Inputs.{IsCall, IsInput}
 use Rattle.ecp_service.proofs.served.Passes.{IsReply, as_many}
 use Rattle.ecp_service.proofs.served.Points.{reply_fits}
@@ -75,9 +75,9 @@ module _ (shape : Shape) (content : Content) (answers : ℕ → List Answer) (hi
       let fits_own : FitsCall (kind_for p.call) AtEnd e.line.act = subst (λ (act : Act). FitsCall (kind_for p.call) AtEnd act) (sym is.act) fits in
       ap (λ (r : Reply). reply_line r e.bytes (sha256 (digested history e e.line.act)))
       (replied p.call e.line.act call.plain fits_own (opened_len history e.line.caller e.line.call) (cause_of history e e.line.act))
-      ∙ same_line e.line.act e.bytes a.bytes (sha256 (digested history e e.line.act))
-      (λ has_data. is.bytes ∙ data_is p.call a fits (ap is_data (sym is.act) ∙ has_data))
-      ∙ ap (λ (act : Act). reply_line (cond (is_data act) reply.Data (reply.Ended act)) a.bytes []) is.act
+      ∙ ap (λ (act : Act). reply_line (simple_reply p.call act) e.bytes (sha256 (digested history e act))) is.act
+      ∙ same_line p.call a e.bytes (sha256 (digested history e a.act)) call.plain fits is.gives
+      (λ has_data. ap (λ (act : Act). sha256 (digested history e act)) (data_act a.act has_data))
 
   reply_at : (c n : ℕ) (p : Planned) (a : Answer) → HasCaller content answers history c → call_at content c n ≡ Some p → slice_get (answers c) n ≡ Some a
       → reply_to history c n p ≡ answer_line a

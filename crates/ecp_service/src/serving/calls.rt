@@ -1,10 +1,8 @@
 //! The calls of a session, one after another.
 ghost use Rattle.std.specs.Prelude.{◌≡◌, ◌≤◌, [], IfOk, OnOk, length, vec_capacity};
 ghost use mathlib.Core.List.{IsPrefix};
-ghost use Rattle.ecp_cluster.specs.Answered.{Answered};
-ghost use Rattle.ecp_service.specs.Asked.{deed_of};
 ghost use Rattle.ecp_service.specs.Callers.{ServedNext};
-ghost use Rattle.ecp_service.specs.Served.{entered_bytes};
+ghost use Rattle.ecp_service.specs.Served.{AnsweredCall};
 ghost use Rattle.ecp_service.specs.Servable.{EachServable, IsServable};
 
 use ecp_book::Names;
@@ -51,7 +49,7 @@ fn serve<N: Names, S: Store + Drop, G: Gate, R: Wait>(
     call: &Call,
 ) -> Result<Answer, NoMemory>
     requires { IsServable call.now }
-    ensures answered { IfOk result (λ a. Answered N.shape N.told pass.old (deed_of call.now) a.act (entered_bytes call.now a) pass.new) }
+    ensures answered { IfOk result (λ a. AnsweredCall N.shape N.told pass.old call.now a pass.new) }
     ensures grows { IsPrefix pass.old.front pass.new.front }
 {
     match call {
@@ -60,24 +58,31 @@ fn serve<N: Names, S: Store + Drop, G: Gate, R: Wait>(
             Ok(without_bytes(alloc, act))
         }
         Call::Read { name, index } => service.read(rt, pass, name.as_str(), *index),
+        Call::Sum { name, index } => service.sum(rt, pass, name.as_str(), *index),
         Call::Lose { node } => {
             let act = service.lose(rt, pass, *node)?;
             Ok(without_bytes(alloc, act))
         }
-        Call::Sum { .. }
-        | Call::Cat { .. }
-        | Call::Join { .. }
-        | Call::Rebuild { .. }
-        | Call::Stat { .. } => unreachable!(),
+        Call::Join { node } => {
+            let act = service.join(rt, pass, *node)?;
+            Ok(without_bytes(alloc, act))
+        }
+        Call::Stat { name } => {
+            let act = service.stat(rt, pass, name.as_str())?;
+            Ok(without_bytes(alloc, act))
+        }
+        Call::Cat { .. } | Call::Rebuild { .. } => unreachable!(),
     }
 }
 
-/// The answer of a call that has no bytes.
+/// The answer of a call that has no bytes and no digest.
 fn without_bytes(alloc: Global, act: Act) -> Answer
     ensures { (result.act ≡ act) × (result.bytes ≡ []) }
 {
     Answer {
         act,
         bytes: Block::new(Vec::new(alloc)),
+        by_digest: false,
+        digest: [0; 32],
     }
 }

@@ -1,12 +1,13 @@
 //! What a run writes: the replies of its sessions, and the journal.
 ghost use Rattle.std.specs.Prelude.{◌≡◌, ◌⊎◌, ◌++◌, [], flat_map};
+ghost use Rattle.ecp_entry.specs.declared.act.Act.TheVariants.{Data};
 ghost use Rattle.ecp_service.specs.RunLines.{session_line};
 ghost use Rattle.ecp_service.specs.Served.{answer_line, answers_by, numbered_replies, run_lines};
 ghost use Rattle.ecp_service.specs.Sinks.{Delivers, GotAll, GotPart, Writes};
 
 use crate::answer::{DONE, WRITE_FAULT};
 use crate::buffer::Buffer;
-use crate::reply_lines::{write_data, write_start};
+use crate::reply_lines::{write_data, write_start, write_sum};
 use crate::run_lines::{write_history, write_session};
 use crate::serving::over::ScriptRun;
 use crate::serving::ran::Ran;
@@ -21,8 +22,20 @@ fn write_answer<W: Sink>(buffer: &mut Buffer, out: &mut W, answer: &Answer) -> R
     ensures { Writes W.Sink result (out.old, buffer.old) (out.new, buffer.new) (answer_line answer.now) }
 {
     match &answer.act {
-        Act::Data => write_data(buffer, out, answer.bytes.bytes()),
+        Act::Data => write_block(buffer, out, answer),
         ended => write_start(buffer, out, &Reply::Ended(*ended)),
+    }
+}
+
+/// Writes the reply line to a call that was answered by a block, or by its digest.
+fn write_block<W: Sink>(buffer: &mut Buffer, out: &mut W, answer: &Answer) -> Result<(), Failed>
+    requires { answer.now.act ≡ Data }
+    ensures { Writes W.Sink result (out.old, buffer.old) (out.new, buffer.new) (answer_line answer.now) }
+{
+    if answer.by_digest {
+        write_sum(buffer, out, &answer.digest)
+    } else {
+        write_data(buffer, out, answer.bytes.bytes())
     }
 }
 
