@@ -1,7 +1,7 @@
 -- No two rows of a stripe are live on one node.
-use Rattle.std.proofs.Common.{◌≡◌, ℕ, zero, suc, ◌+◌, ◌*◌, ◌-◌, ◌<◌, ◌≤◌, ◌/◌, ◌%◌, ◌⊎◌, ◌==◌, Bool, true, false, cond, ◌&&◌, List, [], ◌∷◌, ◌++◌, length, map, take, filter, fold, set, get_or, slice_get, find, Option, Some, None, refl, sym, ◌∙◌, ap, subst, arith, inl, inr, length-set, mul-le-mul_left}
-use Rattle.std.specs.Prelude.{nat_eq, ⊤, slice_index, option_map}
-use Rattle.std.specs.List.{AllByRecursion, IsDistinct, enumerate_from, range_with_len, list_any}
+use Rattle.std.proofs.Common.{◌≡◌, ℕ, zero, suc, ◌+◌, ◌*◌, ◌<◌, ◌≤◌, ◌/◌, ◌%◌, ◌⊎◌, ◌==◌, Bool, true, false, cond, ◌&&◌, List, [], ◌∷◌, length, map, take, filter, fold, get_or, slice_get, find, Option, Some, None, refl, sym, ◌∙◌, ap, subst, arith, inl, inr, length-set, mul-le-mul_left}
+use Rattle.std.specs.Prelude.{nat_eq, ⊤, option_map}
+use Rattle.std.specs.List.{AllByRecursion, IsDistinct, enumerate_from, range_with_len}
 use Rattle.std.specs.Option.{option_map_or}
 use Rattle.std.specs.Int.{bit_at}
 use Rattle.std.proofs.lemmas.Bool.{false≢true, ne_eqb, eqb-false, eqb-true, cases_order, cases_Bool}
@@ -17,11 +17,11 @@ use Rattle.ecp_entry.specs.declared.entry.Entry.{Entry}
 use Rattle.ecp_entry.specs.Entries.{deed_node}
 use Rattle.ecp_history.specs.declared.table.node.Node.{Node}
 use Rattle.ecp_history.specs.declared.table.standing.Standing.{Standing}
-use Rattle.ecp_history.specs.Acts.{HoldsIn, NoOtherLive}
+use Rattle.ecp_history.specs.Acts.{HoldsIn}
 use Rattle.ecp_history.specs.Legal.{IsLegal}
 use Rattle.ecp_history.specs.table.Placement.{nodes_in, place_among}
-use Rattle.ecp_history.specs.table.Tables.{Stripe, PlainTable, start, stripe_of, rows_of, stands_live, up_mask, up_count}
-use Rattle.ecp_history.specs.table.Steps.{rows_among, stripes_among, placed, with_rows, without_node, lost, joined, change_row, live_onto, given_up, with_block, after_act, after, table_of, table_at}
+use Rattle.ecp_history.specs.table.Tables.{Stripe, PlainTable, start, stripe_of, rows_of, stands_live}
+use Rattle.ecp_history.specs.table.Steps.{rows_among, stripes_among, placed, with_rows, without_node, lost, joined, change_row, live_onto, given_up, with_block, after_act, after, table_of}
 use Rattle.ecp_history.proofs.LegalLaws.{onwards}
 use Rattle.ecp_history.proofs.tables.MaskLaws.{up_nodes}
 use Rattle.ecp_plan.specs.declared.live_row.LiveRow.{LiveRow}

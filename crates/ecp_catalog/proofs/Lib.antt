@@ -13,3 +13,4 @@ pub mod StoredLaws
 pub mod JoinLaws
 pub mod ReplaceLaws
 pub mod RestoreLaws
+pub mod LostBlockLaws

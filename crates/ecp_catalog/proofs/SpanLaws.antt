@@ -12,7 +12,7 @@ use Rattle.ecp_catalog.specs.declared.span.Span.{Span}
 use Rattle.ecp_catalog.specs.Kept.{IsSpread, covers}
 
 -- a number before all of them is in none
-none-before : (from to s : ℕ) (xs : List Span) → IsSpread from to xs → s < from → find (covers s) xs ≡ None
+pub none-before : (from to s : ℕ) (xs : List Span) → IsSpread from to xs → s < from → find (covers s) xs ≡ None
 none-before from to s [] spread low = refl
 none-before from to s (x ∷ xs) spread low =
     let above : s < x.first = omega (arith, low, spread.0) in

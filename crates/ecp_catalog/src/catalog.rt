@@ -3,6 +3,7 @@ ghost use Rattle.ecp_shape.specs.Range.{IsInRange};
 ghost use Rattle.ecp_history.specs.Named.{block_at};
 ghost use Rattle.ecp_history.specs.table.Tables.{block_count, file_of, inc_of, is_up, up_count, up_mask};
 ghost use Rattle.ecp_catalog.specs.Catalogs.{CanStore, Reserves, Restores, Stores, changed_at, empty, files_of, first_loss, first_loss_among, is_live_in, is_lost_in, joined_node, live_of, losses_of, lost_at, plain, receipts_of, spare_of, standings_of, with_spare};
+ghost use Rattle.ecp_catalog.specs.LostBlocks.{lost_in, tasks_of};
 ghost use Rattle.ecp_catalog.specs.Standing.{file_with, live_among, standing};
 ghost use Rattle.ecp_catalog.specs.Kept.{rows_stored};
 
@@ -14,7 +15,7 @@ use crate::node_list::{
 use crate::node_row::NodeRow;
 use ecp_book::{Book, Names};
 use ecp_entry::Name;
-use ecp_history::{BlockName, File};
+use ecp_history::{BlockName, File, Task};
 use ecp_node::Receipt;
 use ecp_shape::Shape;
 use ecp_store::NoMemory;
@@ -27,7 +28,8 @@ use std::marker::Model;
 /// A question costs at most what a stripe has rows or a service has nodes, beside one search by a name or by a number.
 /// Questions, [`lose`](Catalog::lose), [`join`](Catalog::join), [`restore`](Catalog::restore) and
 /// [`store`](Catalog::store) take no memory: [`reserve`](Catalog::reserve) and
-/// [`reserve_loss`](Catalog::reserve_loss) take it before.
+/// [`reserve_loss`](Catalog::reserve_loss) take it before. [`lost_on`](Catalog::lost_on) alone looks at all rows, and
+/// takes memory for its answer.
 #[derive(Drop)]
 pub struct Catalog<N: Names> {
     files: FileList<N>,
@@ -194,6 +196,17 @@ impl<N: Names> Catalog<N> {
             Some(rows) => live_rows_among(&self.nodes, rows),
             None => LiveRows::none(),
         }
+    }
+
+    /// The tasks of a rebuild of a node: one for each block that is lost and stands on it, in rising order of the stripes
+    /// and in one stripe of the rows. Their parts are numbered from 1.
+    ///
+    /// It looks once at each row of each stripe. It takes memory for the tasks, and nothing but the want of it is refused.
+    pub fn lost_on(&self, alloc: Global, node: u32) -> Result<Vec<Task>, NoMemory>
+        ensures tasks { IfOk result (λ tasks. tasks.items ≡ tasks_of (lost_in self.now node)) }
+        ensures few { IfOk result (λ tasks. length tasks.items < 2 ^ 32) }
+    {
+        self.files.lost_on(alloc, &self.nodes, node)
     }
 
     /// A receipt of a block. Takes no memory.

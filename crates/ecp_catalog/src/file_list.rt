@@ -1,19 +1,22 @@
-ghost use Rattle.std.specs.Prelude.{◌≡◌, ◌+◌, ◌<◌, ◌≤◌, [], length, IfSome, IsSome, IsTrue, OnErr, OnOk, Some, is_some, option_copied, option_map, slice_get};
+ghost use Rattle.std.specs.Prelude.{◌≡◌, ◌+◌, ◌^◌, ◌<◌, ◌≤◌, [], length, map, IfOk, IfSome, IsSome, IsTrue, OnErr, OnOk, Some, is_some, option_copied, option_map, slice_get};
 ghost use Rattle.ecp_shape.specs.Range.{IsInRange};
 ghost use Rattle.ecp_catalog.specs.Catalogs.{AddsFile, CanStore, Replaces, Reserves, block_named, file_named};
 ghost use Rattle.ecp_catalog.specs.Kept.{IsFile, stripes_stored};
+ghost use Rattle.ecp_catalog.specs.LostBlocks.{lost_among, tasks_of};
 ghost use Rattle.ecp_catalog.specs.Standing.{file_with, has_number, receipts_in, rows_in};
 ghost use Rattle.ecp_catalog.specs.declared.limits.TheConstants.{END_OF_STRIPES};
 ghost use Rattle.ecp_code.specs.Stripes.{stripe_count};
 ghost use Rattle.ecp_history.specs.table.Tables.{block_count, file_block};
 
+use crate::lost_blocks::put_stripes;
 use crate::names::{NameMap, enter, lead};
+use crate::node_row::NodeRow;
 use crate::span::Span;
 use crate::spans::{put_file, span_with};
 use crate::stored_file::StoredFile;
 use ecp_book::{Book, Names};
 use ecp_entry::Name;
-use ecp_history::{BlockName, File};
+use ecp_history::{BlockName, File, Task};
 use ecp_node::Receipt;
 use ecp_shape::Shape;
 use ecp_store::NoMemory;
@@ -163,6 +166,24 @@ impl<N: Names> FileList<N> {
         let stored = self.stored_with(stripe)?;
         let at = (stripe - stored.file().first) as usize * n;
         Some(stored.rows(at, n))
+    }
+
+    /// The tasks of a rebuild of a node: one for each block that is lost and stands on it.
+    pub(crate) fn lost_on(
+        &self,
+        alloc: Global,
+        nodes: &[NodeRow],
+        node: u32,
+    ) -> Result<Vec<Task>, NoMemory>
+        ensures tasks { IfOk result (λ tasks. tasks.items ≡ tasks_of (lost_among (map (λ x. x.node) nodes.now) node self.now.shape.n self.now.files)) }
+        ensures few { IfOk result (λ tasks. length tasks.items < 2 ^ 32) }
+    {
+        let mut tasks = Vec::new(alloc);
+        for span in &self.spans {
+            let file = &self.files[span.file];
+            put_stripes(&mut tasks, nodes, node, file, self.shape, *span)?;
+        }
+        Ok(tasks)
     }
 
     /// Another receipt of a block. Takes no memory.

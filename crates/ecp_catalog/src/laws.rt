@@ -1,6 +1,6 @@
 //! Laws of catalogs. Each is a function with an empty body, whose contract is the law.
 
-ghost use Rattle.std.specs.Prelude.{◌≡◌, ℕ, ◌+◌, ◌*◌, ◌<◌, ◌≤◌, Bool, true, false, List, [], ◌∷◌, ◌++◌, All, Option, Some, None, drop, length, map, nat_eq};
+ghost use Rattle.std.specs.Prelude.{◌≡◌, ℕ, ◌+◌, ◌*◌, ◌<◌, ◌≤◌, Bool, true, false, List, [], ◌∷◌, ◌++◌, All, Option, Some, None, drop, length, map, nat_eq, option_map, slice_get};
 ghost use Rattle.std.specs.List.{IsDistinct, position_from};
 ghost use Rattle.ecp_shape.specs.Range.{IsInRange};
 ghost use Rattle.ecp_shape.specs.declared.shape.Shape.{Shape};
@@ -11,11 +11,13 @@ ghost use Rattle.ecp_entry.specs.Entries.{deed_node, is_loss, loss_of};
 ghost use Rattle.ecp_history.specs.Acts.{AreFresh};
 ghost use Rattle.ecp_history.specs.Legal.{IsLegal, MayFollow};
 ghost use Rattle.ecp_history.specs.Named.{block_at};
-ghost use Rattle.ecp_history.specs.table.Tables.{file_of, inc_of, is_down, is_live, is_up, live_rows, up_count, up_mask};
+ghost use Rattle.ecp_history.specs.declared.table.block_name.BlockName.{BlockName};
+ghost use Rattle.ecp_history.specs.table.Tables.{file_of, inc_of, is_down, is_live, is_up, live_rows, lost_on, up_count, up_mask};
 ghost use Rattle.ecp_history.specs.table.Steps.{table_of};
 ghost use Rattle.ecp_catalog.specs.Standing.{file_with, live_among, standing};
 ghost use Rattle.ecp_catalog.specs.Kept.{rows_stored};
 ghost use Rattle.ecp_catalog.specs.Catalogs.{CatalogState, Reserves, Stores, changed_at, empty, files_of, first_loss, is_live_in, is_lost_in, joined_node, live_of, losses_of, lost_at, plain, standings_of, with_spare};
+ghost use Rattle.ecp_catalog.specs.LostBlocks.{lost_in, task_of, tasks_of};
 ghost use Rattle.ecp_catalog.specs.Outline.{AreKept, IsOutline, TakesBlock, TakesFile, changes, file_stored};
 
 /// The catalog at the start is the outline of the empty history.
@@ -104,6 +106,18 @@ pub fn rows_are_the_tables()
     ensures there { (shape : Shape) (told : Bool) (c : CatalogState) (history : List Entry) (s : ℕ) →
         IsOutline shape told c history →
         All (λ x. (x.row < shape.n) × (is_live (table_of shape history) s x.row ≡ true) × (is_up (plain c) x.node ≡ true)) (live_among (standings_of c s)) }
+{}
+
+/// An outline says which blocks are lost on a node as the table says it, in the same order.
+pub fn lost_blocks_are_the_tables()
+    ensures { (shape : Shape) (told : Bool) (c : CatalogState) (history : List Entry) (m : ℕ) →
+        IsOutline shape told c history → lost_in c m ≡ lost_on (table_of shape history) m }
+{}
+
+/// There is one task for each block, in their order: task j, from 0, is of part j + 1.
+pub fn tasks_are_those_of_the_blocks()
+    ensures count { (blocks : List BlockName) → length (tasks_of blocks) ≡ length blocks }
+    ensures each { (blocks : List BlockName) (j : ℕ) → slice_get (tasks_of blocks) j ≡ option_map (task_of (j + 1)) (slice_get blocks j) }
 {}
 
 /// An outline says of nodes what the table says.

@@ -16,6 +16,7 @@ mod file_list;
 pub mod laws;
 pub mod limits;
 mod live_rows;
+mod lost_blocks;
 mod names;
 mod node_list;
 mod node_row;

@@ -7,7 +7,7 @@ ghost use Rattle.ecp_node.specs.Nodes.{start_of};
 use crate::{Catalog, Stamps};
 use ecp_book::{Blank, Book, Keeper, Names, Tag};
 use ecp_entry::Name;
-use ecp_history::{BlockName, File};
+use ecp_history::{BlockName, File, Task};
 use ecp_node::{Node, Receipt};
 use ecp_plan::{Hop, LiveRow};
 use ecp_shape::Shape;
@@ -89,6 +89,43 @@ fn with_file<N: Names>(alloc: Global, rows: Vec<Receipt<N>>) -> Result<Catalog<N
     };
     catalog.store(file, rows);
     Ok(catalog)
+}
+
+/// A catalog of three nodes with the file `a` in stripe 9 and then the file `b` in stripe 4.
+fn with_two_files<N: Names>(
+    alloc: Global,
+    rows: Vec<Receipt<N>>,
+    others: Vec<Receipt<N>>,
+) -> Result<Catalog<N>, NoMemory>
+    requires rows { vec_len rows ≡ 3 }
+    requires others { vec_len others ≡ 3 }
+{
+    let shape = Shape {
+        n: 3,
+        k: 2,
+        nodes: 3,
+        block: 1,
+    };
+    let mut catalog = Catalog::new(alloc, shape)?;
+    let name = Name::new("a");
+    catalog.reserve(&name, 1)?;
+    catalog.store(two_bytes(name, 9), rows);
+    let other = Name::new("b");
+    catalog.reserve(&other, 1)?;
+    catalog.store(two_bytes(other, 4), others);
+    Ok(catalog)
+}
+
+/// A file of two bytes, in one stripe.
+fn two_bytes(name: Name, first: u32) -> File
+    ensures { result ≡ record { name = name; len = 2; first = first; stripes = 1 } }
+{
+    File {
+        name,
+        len: 2,
+        first,
+        stripes: 1,
+    }
 }
 
 /// Loses a node that has no loss yet.
@@ -222,6 +259,69 @@ fn row_zero_is_live_on_node_two<N: Names, R: Abort>(rt: &R, catalog: &Catalog<N>
         LiveRow { row: 2, node: 2 },
     ];
     assert_eq!(rt; catalog.live_rows(0).as_slice(), &live[..]);
+}
+
+#[test]
+fn a_rebuild_lists_lost_rows_in_order(rt: HostRuntime) -> Result<(), Fail> {
+    let blank = Blank::new(rt.alloc(), 4)?;
+    lose_and_list::<Brand, _>(&rt, rt.alloc(), blank)
+}
+
+/// Row 0 is lost on node 0, restored onto node 2, and lost there with row 2.
+fn lose_and_list<N: Names, R: Abort>(rt: &R, alloc: Global, blank: Blank) -> Result<(), Fail>
+    requires book { blank ≡ N.book }
+    requires stores { (m : ℕ) → m < 3 → start_of N.stores m ≡ record { faults = 0; faultless = true } }
+{
+    let (book, keepers) = Book::<N>::open(alloc, blank)?;
+    let mut spare = Vec::new(alloc);
+    let rows = three_rows(rt, alloc, &book, keepers, &mut spare)?;
+    assert!(rt; rows.len() == 3);
+    let mut catalog = with_file(alloc, rows)?;
+    lists(rt, alloc, &catalog, 0, &[])?;
+    lose(rt, &mut catalog, 0, 1)?;
+    lists(rt, alloc, &catalog, 0, &[task(1, 0, 0)])?;
+    lists(rt, alloc, &catalog, 1, &[])?;
+    let on_two = spare.pop().ok_or("row 0 on node 2")?;
+    restore(&mut catalog, on_two)?;
+    lists(rt, alloc, &catalog, 0, &[])?;
+    lose(rt, &mut catalog, 2, 5)?;
+    lists(rt, alloc, &catalog, 2, &[task(1, 0, 0), task(2, 0, 2)])
+}
+
+#[test]
+fn a_rebuild_lists_stripes_in_order(rt: HostRuntime) -> Result<(), Fail> {
+    let blank = Blank::new(rt.alloc(), 4)?;
+    lose_two_stripes::<Brand, _>(&rt, rt.alloc(), blank)
+}
+
+fn lose_two_stripes<N: Names, R: Abort>(rt: &R, alloc: Global, blank: Blank) -> Result<(), Fail>
+    requires book { blank ≡ N.book }
+    requires stores { (m : ℕ) → m < 3 → start_of N.stores m ≡ record { faults = 0; faultless = true } }
+{
+    let (book, keepers) = Book::<N>::open(alloc, blank)?;
+    let mut spare = Vec::new(alloc);
+    let rows = three_rows(rt, alloc, &book, keepers, &mut spare)?;
+    assert!(rt; rows.len() == 3 && spare.len() == 3);
+    let mut catalog = with_two_files(alloc, rows, spare)?;
+    lose(rt, &mut catalog, 1, 2)?;
+    lists(rt, alloc, &catalog, 1, &[task(1, 4, 1), task(2, 9, 1)])?;
+    lists(rt, alloc, &catalog, 7, &[])
+}
+
+/// A rebuild of a node has these tasks.
+fn lists<N: Names, R: Abort>(
+    rt: &R,
+    alloc: Global,
+    catalog: &Catalog<N>,
+    node: u32,
+    tasks: &[Task],
+) -> Result<(), Fail> {
+    assert_eq!(rt; catalog.lost_on(alloc, node)?.as_slice(), tasks);
+    Ok(())
+}
+
+fn task(part: u32, stripe: u32, row: u8) -> Task {
+    Task { part, stripe, row }
 }
 
 #[test]

@@ -1,7 +1,7 @@
-use Rattle.std.proofs.Common.{◌≡◌, ◌<◌, List, [], refl, sym, ◌∙◌, ap, subst}
+use Rattle.std.proofs.Common.{◌≡◌, ◌<◌, [], refl, sym, ◌∙◌, ap, subst}
 use Rattle.std.specs.Prelude.{All}
 use Rattle.std.proofs.lemmas.List.Elements.{All-nil}
-use Rattle.ecp_catalog.specs.Catalogs.{CatalogState, changed_at, losses_of, with_spare}
+use Rattle.ecp_catalog.specs.Catalogs.{CatalogState, losses_of, with_spare}
 use Rattle.ecp_catalog.proofs.NodeLaws.{at-changed_at}
 use Rattle.ecp_catalog.proofs.PositionLaws.{none_at_all}
 use Rattle.ecp_catalog.proofs.tests.lose.Goals as goal
