@@ -141,7 +141,7 @@ module _ (shape : Shape) (told : Bool) {N : Type 0} (u v w : PassState) (asked :
         by = from.goes.steps.caller;
         of_call = ap (λ (n : ℕ). call_with (n - 1) (Put res.name res.len)) from.goes.calls ∙ ap (λ (d : Deed). call_with (u.calls - 1) d) (asks_put shape told u v asked res from);
         late = from.late;
-        ends = refl;
+        of_part = refl;
         stands = (s.sequence.history, p.event.front ∙ p.event.history ∙ ap (λ (h : ℕ). s.sequence.history ++ item h x ∷ []) from.goes.steps.hand);
         act = refl;
         bytes = refl;

@@ -1,39 +1,36 @@
 -- A read, from its plan to its end.
-use Rattle.std.proofs.Common.{◌≡◌, ℕ, ◌+◌, ◌-◌, ◌<◌, ◌≤◌, Bool, List, [], ◌∷◌, ◌++◌, length, Option, Some, None, Result, Ok, Err, IfOk, IfErr, OnOk, OnErr, refl, sym, ◌∙◌, ap, subst, arith, inl, inr, append-nil}
-use Rattle.std.specs.Prelude.{All, MatchOption, option_and_then, unwrap_or}
-use Rattle.std.proofs.lemmas.List.Elements.{All-nil, All-push}
-use mathlib.Core.List.{IsPrefix}
+use Rattle.std.proofs.Common.{◌≡◌, ℕ, ◌+◌, ◌-◌, Bool, List, [], ◌∷◌, ◌++◌, length, Option, Some, None, Result, Ok, Err, IfOk, IfErr, OnErr, refl, sym, ◌∙◌, ap, subst, arith, inl, inr, append-nil}
+use Rattle.std.specs.Prelude.{MatchOption}
 use Rattle.ecp_shape.specs.declared.shape.Shape.{Shape}
 use Rattle.ecp_book.specs.Logs.{Log}
 use Rattle.ecp_book.proofs.Prefixes.{prefix_length}
 use Rattle.ecp_entry.specs.declared.act.Act.{Act}
 use Rattle.ecp_entry.specs.declared.act.Act.TheVariants as act
 use Rattle.ecp_entry.specs.declared.deed.Deed.{Deed}
+use Rattle.ecp_entry.specs.declared.deed.Deed.TheVariants as deed
 use Rattle.ecp_entry.specs.declared.entry.Entry.{Entry}
-use Rattle.ecp_entry.specs.declared.part.Part.TheVariants as part
+use Rattle.ecp_entry.specs.declared.part.Part.{Part}
 use Rattle.ecp_entry.specs.Items.{item}
 use Rattle.ecp_entry.specs.Told.{items_by}
 use Rattle.ecp_plan.specs.declared.plan.Plan.{Plan}
-use Rattle.ecp_sequencer.specs.Facts.{HandFacts, facts_of, entries_noted, room_noted}
-use Rattle.ecp_sequencer.specs.Notes.{Call, call_of, entering_of, note}
+use Rattle.ecp_sequencer.specs.Facts.{HandFacts, facts_of}
 use Rattle.ecp_sequencer.specs.Passes.{PassState}
 use Rattle.ecp_sequencer.specs.Sequencers.{SequencerState}
-use Rattle.ecp_sequencer.specs.Steps.{Called, EndsWith, Event, IsOfCall, Steps, call_with}
+use Rattle.ecp_sequencer.specs.Steps.{Event, Steps, call_with}
 use Rattle.ecp_sequencer.proofs.NoteLaws.{facts-other}
 use Rattle.ecp_sequencer.proofs.StepLaws.{steps_both, steps_none}
+use Rattle.ecp_coord.specs.declared.ask.Ask.{Ask}
+use Rattle.ecp_coord.specs.declared.ask.Ask.TheVariants as ask
 use Rattle.ecp_coord.specs.declared.no_plan.NoPlan.{NoPlan}
-use Rattle.ecp_coord.specs.declared.no_plan.NoPlan.TheVariants as no
-use Rattle.ecp_coord.specs.Calls.{Ends, IsOpen, closing, ended}
+use Rattle.ecp_coord.specs.Calls.{EndsAny, HasOpen, IsOpen, closing}
 use Rattle.ecp_coord.specs.Coords.{CoordState}
-use Rattle.ecp_coord.specs.Plans.{IsPlanned, Plans, planning_of, refusal_of}
+use Rattle.ecp_coord.specs.Plans.{CanPlan, Plans, RefusesPlan, planning_of, refusal_of}
 use Rattle.ecp_coord.specs.Plans as plans
-use Rattle.ecp_coord.specs.Refusals.{Refuses}
 use Rattle.ecp_requestor.specs.Crews.{EndedAt, SameCall}
 use Rattle.ecp_requestor.specs.Fetching.{Advances, Ended, GoesOn}
-use Rattle.ecp_cluster.specs.Answered.{Answered, FoundNone, HasBegun}
-use Rattle.ecp_cluster.specs.Concluded.{Concludes, EndsUnplanned, GoesBy, IsPlannedFrom, ReadBy, WentOn}
+use Rattle.ecp_cluster.specs.Concluded.{Answers, EndsUnplanned, GoesBy, IsPlannedFrom, ReadBy, WentOn}
 use Rattle.ecp_cluster.specs.declared.answer.Answer.{Answer}
-use Rattle.ecp_cluster.proofs.CallLaws.{concluded, same_asked, waited}
+use Rattle.ecp_cluster.proofs.CallLaws.{same_asked, waited}
 
 -- ---- what a call asks for
 
@@ -43,15 +40,47 @@ still_asks v w a b is now same = same_asked (facts_of w.notes).call (w.calls - 1
 
 -- ---- the plan
 
-pub unplanned : (shape : Shape) (told : Bool) (s t : CoordState) (v w : PassState) (asked : Deed) (why : NoPlan) → Refuses shape told s v asked (refusal_of why) t w
-    → EndsUnplanned shape told v asked why w
-unplanned shape told s t v w asked no.NoSuchFile r = concluded shape told s.sequence t.sequence v w asked act.NoSuchFile r.event
-unplanned shape told s t v w asked (no.NoSuchBlock count) r = concluded shape told s.sequence t.sequence v w asked (act.NoSuchBlock count) r.event
-unplanned shape told s t v w asked (no.Unrecoverable live) r = concluded shape told s.sequence t.sequence v w asked (act.Unrecoverable live) r.event
-unplanned shape told s t v w asked no.AlreadyLive r = waited shape told s.sequence t.sequence v w r.event r.calls
-unplanned shape told s t v w asked (no.Clash row) r = waited shape told s.sequence t.sequence v w r.event r.calls
-unplanned shape told s t v w asked (no.TargetDown node) r = waited shape told s.sequence t.sequence v w r.event r.calls
-unplanned shape told s t v w asked no.NoMemory r = waited shape told s.sequence t.sequence v w r.event r.calls
+-- this part of it ended, by one event
+parted : (shape : Shape) (told : Bool) (s t : SequencerState) (v w : PassState) (asked : Deed) (at : Part) (what : Act) → IsOpen v asked → EndsAny shape told s v at what t w → Answers shape told v asked at what [] w
+parted shape told s t v w asked at what is ends =
+    let same : ends.asked ≡ asked = still_asks v v asked ends.asked is ends.is_open (refl, refl) in
+    record {
+      entry = closing v ends.asked at (length s.history) what [];
+      more = _;
+      steps = ends.event.steps;
+      legal = ends.event.legal;
+      calls = ends.calls;
+      by = refl;
+      of_call = ap (λ (d : Deed). call_with (v.calls - 1) d) same;
+      late = prefix_length v.front s.history ends.begins;
+      of_part = refl;
+      stands = (s.history, ends.event.front ∙ ends.event.history);
+      act = refl;
+      bytes = refl;
+    }
+
+unplanned_by : (shape : Shape) (told : Bool) (s t : SequencerState) (v w : PassState) (asked : Deed) (at : Part) (said : Option Act) → IsOpen v asked → w.calls ≡ v.calls
+    → MatchOption said (Event shape told s v [] [] t w) (λ what. EndsAny shape told s v at what t w) → MatchOption said (WentOn v w) (λ what. Answers shape told v asked at what [] w)
+unplanned_by shape told s t v w asked at None is calls event = waited shape told s t v w event calls
+unplanned_by shape told s t v w asked at (Some what) is calls ends = parted shape told s t v w asked at what is ends
+
+pub unplanned : (shape : Shape) (told : Bool) (s t : CoordState) (v w : PassState) (asked : Deed) (at : Part) (why : NoPlan) → IsOpen v asked → RefusesPlan shape told s v at (refusal_of why) t w
+    → EndsUnplanned shape told v asked at why w
+unplanned shape told s t v w asked at why is r = unplanned_by shape told s.sequence t.sequence v w asked at (refusal_of why) is r.calls r.event
+
+-- the answer that says so, or want of memory
+pub refused_ok : {E : Type 0} (shape : Shape) (told : Bool) (v w : PassState) (asked : Deed) (at : Part) (said : Option Act) (result : Result Answer E)
+    → IfOk result (λ a. (said ≡ Some a.act) × (a.bytes ≡ [])) → MatchOption said (WentOn v w) (λ what. Answers shape told v asked at what [] w) → IfOk result (λ a. Answers shape told v asked at a.act a.bytes w)
+refused_ok shape told v w asked at said (Ok a) says ended =
+    subst (λ (xs : List ℕ). Answers shape told v asked at a.act xs w) (sym says.1)
+    (subst (λ (o : Option Act). MatchOption o (WentOn v w) (λ what. Answers shape told v asked at what [] w)) says.0 ended)
+refused_ok shape told v w asked at said (Err e) says ended = tt
+
+pub refused_err : {E : Type 0} (shape : Shape) (told : Bool) (v w : PassState) (asked : Deed) (at : Part) (said : Option Act) (result : Result Answer E)
+    → OnErr result (said ≡ None) → MatchOption said (WentOn v w) (λ what. Answers shape told v asked at what [] w) → OnErr result (WentOn v w)
+refused_err shape told v w asked at said (Ok a) none went = tt
+refused_err shape told v w asked at said (Err e) none went =
+    subst (λ (o : Option Act). MatchOption o (WentOn v w) (λ what. Answers shape told v asked at what [] w)) none went
 
 pub planned_from : (shape : Shape) (told : Bool) {N : Type 0} (s t : CoordState) (v w : PassState) (asked : Deed) (plan : Plan N) → IsOpen v asked → Plans shape told s v plan t w
     → IsPlannedFrom shape told v asked plan w
@@ -73,10 +102,10 @@ pub planned_either : (shape : Shape) (told : Bool) {N : Type 0} (s t : CoordStat
 planned_either shape told s t v w asked (Ok plan) is p = planned_from shape told s t v w asked plan is p
 planned_either shape told s t v w asked (Err why) is p = tt
 
-pub unplanned_either : (shape : Shape) (told : Bool) {N : Type 0} (s t : CoordState) (v w : PassState) (asked : Deed) (result : Result (Plan N) NoPlan)
-    → IfErr result (λ why. Refuses shape told s v asked (refusal_of why) t w) → IfErr result (λ why. EndsUnplanned shape told v asked why w)
-unplanned_either shape told s t v w asked (Ok plan) r = tt
-unplanned_either shape told s t v w asked (Err why) r = unplanned shape told s t v w asked why r
+pub unplanned_either : (shape : Shape) (told : Bool) {N : Type 0} (s t : CoordState) (v w : PassState) (asked : Deed) (at : Part) (result : Result (Plan N) NoPlan) → IsOpen v asked
+    → IfErr result (λ why. RefusesPlan shape told s v at (refusal_of why) t w) → IfErr result (λ why. EndsUnplanned shape told v asked at why w)
+unplanned_either shape told s t v w asked at (Ok plan) is r = tt
+unplanned_either shape told s t v w asked at (Err why) is r = unplanned shape told s t v w asked at why is r
 
 -- ---- the fetch
 
@@ -105,10 +134,10 @@ module _ (shape : Shape) (told : Bool) {N : Type 0} (v p : PassState) (asked : D
         late = omega (arith, from.late, a.later.point);
       }
 
-  pub ended_from : (before : Log) (what : Act) (w : PassState) → EndedAt shape told before p what w → Concludes shape told v asked what [] w
+  pub ended_from : (before : Log) (what : Act) (w : PassState) → EndedAt shape told before p plan.part what w → Answers shape told v asked plan.part what [] w
   ended_from before what w e =
       let same : e.asked ≡ asked = still_asks p p asked e.asked from.goes.is_open e.is_open (refl, refl) in
-      let x : Entry = ended p e.asked (length before) what in
+      let x : Entry = closing p e.asked plan.part (length before) what [] in
       record {
         entry = x;
         more = from.goes.more ++ e.more;
@@ -118,16 +147,16 @@ module _ (shape : Shape) (told : Bool) {N : Type 0} (v p : PassState) (asked : D
         by = from.goes.steps.caller;
         of_call = ap (λ (n : ℕ). call_with (n - 1) e.asked) from.goes.calls ∙ ap (λ (d : Deed). call_with (v.calls - 1) d) same;
         late = omega (arith, prefix_length v.front p.front from.goes.steps.extends, prefix_length p.front before e.begins);
-        ends = refl;
+        of_part = refl;
         stands = (before, e.front ∙ ap (λ (h : ℕ). before ++ item h x ∷ []) from.goes.steps.hand);
         act = refl;
         bytes = refl;
       }
 
-  pub given_from : (s t : CoordState) (bytes : List ℕ) (w : PassState) → plans.Finishes shape told s p plan bytes t w → Concludes shape told v asked act.Data bytes w
+  pub given_from : (s t : CoordState) (bytes : List ℕ) (w : PassState) → plans.Finishes shape told s p plan bytes t w → Answers shape told v asked plan.part act.Data bytes w
   given_from s t bytes w f =
       let same : f.asked ≡ asked = still_asks p p asked f.asked from.goes.is_open f.is_open (refl, refl) in
-      let x : Entry = closing p f.asked plan.point act.Data bytes in
+      let x : Entry = closing p f.asked plan.part plan.point act.Data bytes in
       record {
         entry = x;
         more = _;
@@ -137,7 +166,7 @@ module _ (shape : Shape) (told : Bool) {N : Type 0} (v p : PassState) (asked : D
         by = from.goes.steps.caller;
         of_call = ap (λ (n : ℕ). call_with (n - 1) f.asked) from.goes.calls ∙ ap (λ (d : Deed). call_with (v.calls - 1) d) same;
         late = from.late;
-        ends = refl;
+        of_part = refl;
         stands = (s.sequence.history, f.event.front ∙ f.event.history ∙ ap (λ (h : ℕ). s.sequence.history ++ item h x ∷ []) from.goes.steps.hand);
         act = refl;
         bytes = refl;
@@ -145,9 +174,9 @@ module _ (shape : Shape) (told : Bool) {N : Type 0} (v p : PassState) (asked : D
 
 -- with the bytes of the block that was fetched
 pub given_by : (shape : Shape) (told : Bool) {N : Type 0} (v p : PassState) (asked : Deed) (plan : Plan N) (from : IsPlannedFrom shape told v asked plan p) (s t : CoordState) (bytes seen : List ℕ) (w : PassState)
-    → seen ≡ bytes → plans.Finishes shape told s p plan seen t w → Concludes shape told v asked act.Data bytes w
+    → seen ≡ bytes → plans.Finishes shape told s p plan seen t w → Answers shape told v asked plan.part act.Data bytes w
 given_by shape told v p asked plan from s t bytes seen w same f =
-    subst (λ (xs : List ℕ). Concludes shape told v asked act.Data xs w) same (given_from shape told v p asked plan from s t seen w f)
+    subst (λ (xs : List ℕ). Answers shape told v asked plan.part act.Data xs w) same (given_from shape told v p asked plan from s t seen w f)
 
 -- a pass that went on from its plan, without another
 pub went_from : (shape : Shape) (told : Bool) {N : Type 0} (v p w : PassState) (asked : Deed) (plan : Plan N) → IsPlannedFrom shape told v asked plan p → GoesOn p w → WentOn v w
@@ -159,20 +188,31 @@ went_from shape told v p w asked plan from goes =
       calls = goes.call.0 ∙ from.goes.calls;
     }
 
--- a call that a fetch ended, with the act and the bytes of an answer
+-- an answer with the act and the bytes of an entry
+pub answers_as : (shape : Shape) (told : Bool) (v w : PassState) (asked : Deed) (at : Part) (what a : Act) (given : List ℕ) → a ≡ what → given ≡ [] → Answers shape told v asked at what [] w
+    → Answers shape told v asked at a given w
+answers_as shape told v w asked at what a given is none said =
+    subst (λ (x : Act). Answers shape told v asked at x given w) (sym is) (subst (λ (xs : List ℕ). Answers shape told v asked at what xs w) (sym none) said)
+
+-- a part that a fetch ended, with the act and the bytes of an answer
 pub ended_by : (shape : Shape) (told : Bool) {N : Type 0} (v p : PassState) (asked : Deed) (plan : Plan N) (from : IsPlannedFrom shape told v asked plan p) (what a : Act) (given : List ℕ) (w : PassState)
-    → Ended shape told p what w → a ≡ what → given ≡ [] → Concludes shape told v asked a given w
+    → Ended shape told p plan.part what w → a ≡ what → given ≡ [] → Answers shape told v asked plan.part a given w
 ended_by shape told v p asked plan from what a given w e is none =
-    subst (λ (x : Act). Concludes shape told v asked x given w) (sym is)
-    (subst (λ (xs : List ℕ). Concludes shape told v asked what xs w) (sym none) (ended_from shape told v p asked plan from e.0 what w e.1))
+    answers_as shape told v w asked plan.part what a given is none (ended_from shape told v p asked plan from e.0 what w e.1)
 
 -- ---- the call with its plan
 
+-- a call that asks for a plan is open
+pub open_by : (shape : Shape) (p : PassState) (a : Ask) → CanPlan shape p a → HasOpen p
+open_by shape p (ask.Read name index) can = (deed.Read name.now index, can.2.is_open)
+open_by shape p (ask.Sum name index) can = (deed.Sum name.now index, can.2.is_open)
+open_by shape p (ask.CatPart index) can = (deed.Cat can.0, can.1.is_open)
+
 -- a call that has its plan, read by it
-pub read_either : {N E : Type 0} (shape : Shape) (told : Bool) (v p w : PassState) (asked : Deed) (plan : Plan N) (result : Result Answer E) → IsPlannedFrom shape told v asked plan p
-    → IfOk result (λ a. ReadBy shape told p plan a.act a.bytes w) → IfOk result (λ a. Concludes shape told v asked a.act a.bytes w)
-read_either shape told v p w asked plan (Ok a) from by = by v asked from
-read_either shape told v p w asked plan (Err e) from by = tt
+pub read_either : {N E : Type 0} (shape : Shape) (told : Bool) (v p w : PassState) (asked : Deed) (at : Part) (plan : Plan N) (result : Result Answer E) → plan.part ≡ at → IsPlannedFrom shape told v asked plan p
+    → IfOk result (λ a. ReadBy shape told p plan a.act a.bytes w) → IfOk result (λ a. Answers shape told v asked at a.act a.bytes w)
+read_either shape told v p w asked at plan (Ok a) is from by = subst (λ (r : Part). Answers shape told v asked r a.act a.bytes w) is (by v asked from)
+read_either shape told v p w asked at plan (Err e) is from by = tt
 
 pub goes_either : {N E : Type 0} (shape : Shape) (told : Bool) (v p w : PassState) (asked : Deed) (plan : Plan N) (result : Result Answer E) → IsPlannedFrom shape told v asked plan p
     → OnErr result (GoesBy shape told p plan w) → OnErr result (WentOn v w)

@@ -7,11 +7,13 @@ use Rattle.ecp_shape.specs.declared.shape.Shape.{Shape}
 use Rattle.ecp_book.specs.Logs.{Known, Log}
 use Rattle.ecp_entry.specs.declared.deed.Deed.{Deed}
 use Rattle.ecp_entry.specs.declared.entry.Entry.{Entry}
+use Rattle.ecp_entry.specs.declared.part.Part.{Part}
 use Rattle.ecp_entry.specs.Told.{history_of, items_by}
 use Rattle.ecp_history.specs.declared.table.block_name.BlockName.{BlockName}
+use Rattle.ecp_history.specs.Calls.{OfBlock, kind_of, place_of}
 use Rattle.ecp_history.specs.Follows.{is_voiding, passes_at}
 use Rattle.ecp_history.specs.Fronts.{told_table}
-use Rattle.ecp_history.specs.Named.{block_at}
+use Rattle.ecp_history.specs.Named.{block_at, deed_block}
 use Rattle.ecp_history.specs.Recoverable.{IsRecoverable}
 use Rattle.ecp_history.specs.table.Steps.{table_of}
 use Rattle.ecp_history.specs.table.Tables.{PlainTable}
@@ -25,15 +27,15 @@ use Rattle.ecp_sequencer.specs.Sequencers.{SequencerState}
 use Rattle.ecp_sequencer.specs.Steps.{Event}
 use Rattle.ecp_coord.specs.declared.planning.Making.{Making}
 use Rattle.ecp_coord.specs.Attempts.{IsFirst}
-use Rattle.ecp_coord.specs.Calls.{IsFresh}
+use Rattle.ecp_coord.specs.Calls.{IsOpen}
 use Rattle.ecp_coord.specs.Coords.{CoordParts, CoordState, IsCoord}
 use Rattle.ecp_coord.specs.Helping.{CanHelp}
-use Rattle.ecp_coord.specs.Plans.{AsksBlock, Plans, block_of, is_recoverable, planning_of, sought}
+use Rattle.ecp_coord.specs.Plans.{IsDue, Plans, block_of, is_recoverable, planning_of, sought}
 use Rattle.ecp_coord.specs.Voids.{AreVoids}
 use Rattle.ecp_coord.proofs.FollowLaws.{IsMet}
 use Rattle.ecp_coord.proofs.HelpLaws.{can_help}
 use Rattle.ecp_coord.proofs.PlanLaws.{IsFit, made_chosen, made_live, made_sound, made_stamped, planned_is, recoverable}
-use Rattle.ecp_coord.proofs.SeekLaws.{IsHad, found_had, of_block}
+use Rattle.ecp_coord.proofs.SeekLaws.{IsHad, found_had}
 use Rattle.ecp_coord.proofs.StandLaws.{block_row}
 
 -- no position is kept yet
@@ -45,6 +47,13 @@ none_kept shape test hand front = record {
   late = All-nil (λ v. items_by hand (drop v front) ≡ []);
   rest = refl;
 }
+
+-- the open call of a pass asks, at this part, for the block of a name and a number, and the part is due
+pub record IsAsking (shape : Shape) (v : PassState) (front : Log) (asked : Deed) (at : Part) (name : List ℕ) (index : ℕ) : Type 0 where
+  pub is_open : IsOpen v asked
+  pub of_block : OfBlock (kind_of (Some asked)) (place_of at)
+  pub due : IsDue shape v asked at front
+  pub block : (t : PlainTable) → deed_block shape t at (Some asked) ≡ block_at shape t name index
 
 -- a coordinator of these parts
 abbrev pub state : SequencerState → StampsSeen → ℕ → ℕ → ℕ → Bool → List Log → CoordState
@@ -62,11 +71,11 @@ module _ (shape : Shape) (told : Bool) (callers spares : ℕ) (s : SequencerStat
     pub first_stamped : All (λ h. h.node < MAX_NODES) plan.hops.items
     first_stamped = made_stamped shape told p.catalog s.history is.range met.kept.legal is.outline is.each_node x.stamps m.cyclic plan first.made
 
-    pub first_plans : (t : SequencerState) (w : PassState) (y : StampsSeen) (stripes : ℕ) (nodes : List Log) (asked : Deed) (name : List ℕ) (index : ℕ) → AsksBlock asked name index → IsFresh v asked
+    pub first_plans : (t : SequencerState) (w : PassState) (y : StampsSeen) (stripes : ℕ) (nodes : List Log) (asked : Deed) (name : List ℕ) (index : ℕ) → IsAsking shape v s.history asked m.part name index
         → sought shape (table_of shape (history_of s.history)) name index ≡ Ok m.block → m.slice ≡ p.slice
         → Event shape told s v [] (note (length s.history) ROOM (planning_of plan) ∷ []) t w → w.calls ≡ v.calls → IsRaised x y (map (λ h. h.node) plan.hops.items)
         → Plans shape told (state s x m.repair stripes m.slice m.cyclic nodes) v plan (state t y (m.repair + 1) stripes m.slice m.cyclic nodes) w
-    first_plans t w y stripes nodes asked name index asks fresh found slice event calls raised =
+    first_plans t w y stripes nodes asked name index asks found slice event calls raised =
         let u : PlainTable = table_of shape (history_of s.history) in
         let had : IsHad shape u name index m.block = found_had shape u name index m.block found in
         let front : plan.front.items ≡ s.history = ap (λ (k : Known). k.items) first.made.front in
@@ -77,9 +86,12 @@ module _ (shape : Shape) (told : Bool) (callers spares : ℕ) (s : SequencerStat
         let cut : plan.slice ≡ p.slice = first.sizes.1 ∙ slice in
         let tries : plan.voids.len ≡ 0 = ap (λ (z : Voids). z.len) first.tries in
         let attempt : plan.attempt ≡ 1 = first.numbered.1 in
-        let fit : IsFit shape told asked v.hand plan = record {
+        let fit : IsFit shape told asked v plan = record {
           sound = made_sound shape told p.catalog s.history is.range met.kept.legal is.outline is.each_node x.stamps m.cyclic plan first.made row size (omega (arith, cut, is.sliced.0)) (omega (arith, cut, is.sliced.1)) own;
-          block = (of_block asked name index asks).block shape (told_table shape plan.front.items) ∙ ap (λ (items : Log). block_at shape (told_table shape items) name index) front ∙ had.named ∙ ap (λ (b : BlockName). Some b) (sym first.block);
+          of_block = subst (λ (at : Part). OfBlock (kind_of (Some asked)) (place_of at)) (sym first.part) asks.of_block;
+          due = subst (λ (items : Log). IsDue shape v asked plan.part items) (sym front) (subst (λ (at : Part). IsDue shape v asked at s.history) (sym first.part) asks.due);
+          block = ap (λ (at : Part). deed_block shape (told_table shape plan.front.items) at (Some asked)) first.part ∙ asks.block (told_table shape plan.front.items)
+              ∙ ap (λ (items : Log). block_at shape (told_table shape items) name index) front ∙ had.named ∙ ap (λ (b : BlockName). Some b) (sym first.block);
           recoverable = subst (λ (items : Log). IsRecoverable shape (told_table shape items) plan.stripe plan.row) (sym front) (recoverable shape u (block_of plan) own);
           attempt = omega (arith, attempt, tries);
           most = omega (arith, attempt);
@@ -90,7 +102,7 @@ module _ (shape : Shape) (told : Bool) (callers spares : ℕ) (s : SequencerStat
         } in
         record {
           event = event;
-          planned = planned_is shape told s t v w asked ROOM plan event calls fresh.is_open (omega arith) (omega (arith, attempt)) front first.made.point fit;
+          planned = planned_is shape told s t v w asked ROOM plan event calls asks.is_open (omega arith) (omega (arith, attempt)) front first.made.point fit;
           made = record {
             front = front;
             chosen = made_chosen shape told p.catalog s.history is.range met.kept.legal is.outline is.each_node x.stamps m.cyclic plan first.made;

@@ -1,22 +1,20 @@
 -- The entry that ends a call, by what the pass says of the call.
-use Rattle.std.proofs.Common.{◌≡◌, ℕ, ◌-◌, Bool, List, [], length, Option, Some, None, sym, ◌∙◌, ap, subst}
+use Rattle.std.proofs.Common.{◌≡◌, ℕ, ◌-◌, List, Option, Some, None, sym, ◌∙◌, ap, subst}
 use Rattle.std.specs.Prelude.{MatchOption, ⊤}
 use Rattle.std.specs.Option.{option_map_or}
 use Rattle.std.proofs.lemmas.Option.{same_Some}
-use Rattle.ecp_shape.specs.declared.shape.Shape.{Shape}
 use Rattle.ecp_book.specs.Logs.{Log}
 use Rattle.ecp_entry.specs.declared.act.Act.{Act}
 use Rattle.ecp_entry.specs.declared.deed.Deed.{Deed}
 use Rattle.ecp_entry.specs.declared.entry.Entry.{Entry}
-use Rattle.ecp_entry.specs.declared.part.Part.TheVariants as part
+use Rattle.ecp_entry.specs.declared.part.Part.{Part}
 use Rattle.ecp_entry.specs.Entries.{deed_name}
 use Rattle.ecp_entry.specs.ReadBack.{entry_with, line_with}
 use Rattle.ecp_sequencer.specs.Facts.{facts_of}
 use Rattle.ecp_sequencer.specs.Notes.{Call}
 use Rattle.ecp_sequencer.specs.Passes.{AsksFor, PassState}
-use Rattle.ecp_sequencer.specs.Sequencers.{SequencerState}
 use Rattle.ecp_sequencer.specs.Steps.{call_with}
-use Rattle.ecp_coord.specs.Calls.{EndsAny, EndsBy, IsOpen, closing}
+use Rattle.ecp_coord.specs.Calls.{IsOpen, closing}
 
 -- what the pass says that its open call asks for
 pub asks_is : (notes : Log) (said : Option Deed) (number : ℕ) (asked : Deed) → AsksFor notes said → (facts_of notes).call ≡ Some (call_with number asked) → said ≡ Some asked
@@ -24,19 +22,15 @@ asks_is notes said number asked asks is =
     sym (subst (λ (o : Option Call). MatchOption o ⊤ (λ (c : Call). c.deed ≡ said)) is asks)
 
 -- an entry with these fields
-abbrev pub entry_by : ℕ → ℕ → ℕ → Act → Option Deed → List ℕ → Entry
-entry_by caller call point act said bytes = entry_with (line_with caller call point part.End act) said (deed_name said) bytes
+abbrev pub entry_by : ℕ → ℕ → Part → ℕ → Act → Option Deed → List ℕ → Entry
+entry_by caller call at point act said bytes = entry_with (line_with caller call point at act) said (deed_name said) bytes
 
-pub same_entry : (v : PassState) (asked : Deed) (caller calls point : ℕ) (act : Act) (said : Option Deed) (bytes : List ℕ) → caller ≡ v.caller → calls ≡ v.calls → said ≡ Some asked
-    → closing v asked point act bytes ≡ entry_by caller (calls - 1) point act said bytes
-same_entry v asked caller calls point act said bytes by number says =
-    ap (λ (k : ℕ). entry_by k (v.calls - 1) point act (Some asked) bytes) (sym by)
-    ∙ ap (λ (n : ℕ). entry_by caller (n - 1) point act (Some asked) bytes) (sym number)
-    ∙ ap (λ (d : Option Deed). entry_by caller (calls - 1) point act d bytes) (sym says)
-
--- at its own position, with no bytes
-pub ends_any : (shape : Shape) (told : Bool) (s t : SequencerState) (v w : PassState) (act : Act) → EndsBy shape told s v (length s.history) act [] t w → EndsAny shape told s v act t w
-ends_any shape told s t v w act by = record { asked = by.asked; is_open = by.is_open; ends = record { event = by.event; begins = by.begins; calls = by.calls } }
+pub same_entry : (v : PassState) (asked : Deed) (caller calls : ℕ) (at : Part) (point : ℕ) (act : Act) (said : Option Deed) (bytes : List ℕ) → caller ≡ v.caller → calls ≡ v.calls → said ≡ Some asked
+    → closing v asked at point act bytes ≡ entry_by caller (calls - 1) at point act said bytes
+same_entry v asked caller calls at point act said bytes by number says =
+    ap (λ (k : ℕ). entry_by k (v.calls - 1) at point act (Some asked) bytes) (sym by)
+    ∙ ap (λ (n : ℕ). entry_by caller (n - 1) at point act (Some asked) bytes) (sym number)
+    ∙ ap (λ (d : Option Deed). entry_by caller (calls - 1) at point act d bytes) (sym says)
 
 -- the call that is open asks for one thing
 pub one_asked : (v : PassState) (asked other : Deed) → IsOpen v asked → IsOpen v other → asked ≡ other

@@ -1,5 +1,5 @@
 -- The entry with the bytes of a block may come next.
-use Rattle.std.proofs.Common.{◌≡◌, ℕ, ◌≤◌, Bool, true, false, List, [], ◌++◌, length, take, drop, Option, Some, refl, sym, ◌∙◌, ap, subst, arith, inl}
+use Rattle.std.proofs.Common.{◌≡◌, ℕ, ◌≤◌, Bool, true, false, List, [], ◌++◌, length, take, drop, Option, Some, refl, sym, ◌∙◌, ap, subst, arith}
 use Rattle.std.specs.Prelude.{IsSomeAnd, IsTrue}
 use mathlib.Core.List.{IsPrefix}
 use Rattle.std.proofs.lemmas.Bool.{false≢true}
@@ -10,7 +10,6 @@ use Rattle.ecp_book.proofs.Prefixes.{prefix_length}
 use Rattle.ecp_entry.specs.declared.act.Act.TheVariants as act
 use Rattle.ecp_entry.specs.declared.deed.Deed.{Deed}
 use Rattle.ecp_entry.specs.declared.entry.Entry.{Entry}
-use Rattle.ecp_entry.specs.declared.part.Part.TheVariants as part
 use Rattle.ecp_entry.specs.Told.{history_of, items_by}
 use Rattle.ecp_entry.proofs.ToldLaws.{history_of-append}
 use Rattle.ecp_history.specs.declared.table.block_name.BlockName.{BlockName}
@@ -26,7 +25,7 @@ use Rattle.ecp_sequencer.specs.Sequencers.{SequencerState}
 use Rattle.ecp_coord.specs.Calls.{IsOpen, closing}
 use Rattle.ecp_coord.specs.Coords.{AreIdle}
 use Rattle.ecp_coord.specs.Plans.{IsPlanned, answer_of}
-use Rattle.ecp_coord.proofs.CallLaws.{reads_block}
+use Rattle.ecp_coord.proofs.DueLaws.{due_goes}
 use Rattle.ecp_coord.proofs.EndWithLaws.{one_asked}
 use Rattle.ecp_coord.proofs.FollowLaws.{IsMet, follows_upto, none_since}
 use Rattle.ecp_coord.proofs.LoseLaws.{length_told}
@@ -55,12 +54,12 @@ module _ (shape : Shape) (told : Bool) (callers spares : ℕ) (s : SequencerStat
         ap (λ (n : ℕ). table_at shape (history_of s.history) n) planned.point ∙ ap (λ (es : List Entry). table_of shape es) (front_taken plan.front.items s.history begins)
 
     pub data_follows : AreIdle spares s.notes → (bytes : List ℕ) → IsBlockIn shape told plan.front.items plan.stripe plan.row bytes
-        → MayFollow shape told (history_of s.history) (answer_of v planned.asked plan.point bytes)
+        → MayFollow shape told (history_of s.history) (answer_of v planned.asked plan.part plan.point bytes)
     data_follows idle bytes named =
-        let e : Entry = answer_of v planned.asked plan.point bytes in
+        let e : Entry = answer_of v planned.asked plan.part plan.point bytes in
         let u : PlainTable = told_table shape plan.front.items in
         let whole : length plan.front.items ≤ length s.history = prefix_length plan.front.items s.history begins in
-        let holds : IsSomeAnd (deed_block shape u part.End (Some planned.asked)) (Reads shape told u e) =
+        let holds : IsSomeAnd (deed_block shape u plan.part (Some planned.asked)) (Reads shape told u e) =
         subst (λ (o : Option BlockName). IsSomeAnd o (Reads shape told u e)) (sym planned.block)
         (record { recoverable = planned.recoverable; bytes = of_block shape told u plan.stripe plan.row bytes named.named }) in
         record {
@@ -70,16 +69,16 @@ module _ (shape : Shape) (told : Bool) (callers spares : ℕ) (s : SequencerStat
             own = λ off. absurd (false≢true (sym off));
           };
           agrees = record {
-            call = inl (reads_block shape u planned.asked (record { stripe = plan.stripe; row = plan.row }) planned.block, refl);
+            call = planned.of_block;
             caller = met.session;
             name = refl;
             bytes = tt;
           };
-          part = λ off. absurd (false≢true off);
-          holds = subst (λ (tab : PlainTable). IsSomeAnd (deed_block shape tab part.End (Some planned.asked)) (Reads shape told tab e)) (sym point_table) holds;
+          part = due_goes shape v planned.asked plan.part plan.front.items s.history begins planned.of_block planned.due plan.point act.Data bytes refl;
+          holds = subst (λ (tab : PlainTable). IsSomeAnd (deed_block shape tab plan.part (Some planned.asked)) (Reads shape told tab e)) (sym point_table) holds;
         }
 
     pub data_goes : AreIdle spares s.notes → (bytes : List ℕ) → IsBlockIn shape told plan.front.items plan.stripe plan.row bytes → (asked : Deed) → IsOpen v asked
-        → MayFollow shape told (history_of s.history) (closing v asked plan.point act.Data bytes)
+        → MayFollow shape told (history_of s.history) (closing v asked plan.part plan.point act.Data bytes)
     data_goes idle bytes named asked open_call =
-        subst (λ (d : Deed). MayFollow shape told (history_of s.history) (closing v d plan.point act.Data bytes)) (one_asked v planned.asked asked planned.is_open open_call) (data_follows idle bytes named)
+        subst (λ (d : Deed). MayFollow shape told (history_of s.history) (closing v d plan.part plan.point act.Data bytes)) (one_asked v planned.asked asked planned.is_open open_call) (data_follows idle bytes named)

@@ -1,5 +1,6 @@
 pub mod AnyLaws
 pub mod RoomLaws
+pub mod DueLaws
 pub mod EndLaws
 pub mod EndWithLaws
 pub mod FollowLaws
@@ -27,6 +28,8 @@ pub mod PlanningLaws
 pub mod LoseLaws
 pub mod JoinLaws
 pub mod StatLaws
+pub mod OpeningLaws
+pub mod ClosingLaws
 pub mod UpLaws
 pub mod OvertakeLaws
 pub mod StoreLaws

@@ -5,6 +5,7 @@ use Rattle.ecp_shape.specs.declared.limits.TheConstants.{MAX_ATTEMPTS}
 use Rattle.ecp_shape.specs.declared.shape.Shape.{Shape}
 use Rattle.ecp_book.specs.Logs.{Log}
 use Rattle.ecp_entry.specs.declared.act.Act.{Act}
+use Rattle.ecp_entry.specs.declared.part.Part.{Part}
 use Rattle.ecp_history.specs.table.Tables.{PlainTable, live_rows}
 use Rattle.ecp_plan.specs.declared.plan.Plan.{Plan}
 use Rattle.ecp_sequencer.specs.Facts.{room_noted}
@@ -15,7 +16,6 @@ use Rattle.ecp_sequencer.specs.Steps.{Event}
 use Rattle.ecp_coord.specs.declared.replanned.Replanned.TheVariants as re
 use Rattle.ecp_coord.specs.Calls.{EndsAny, EndsBy}
 use Rattle.ecp_coord.specs.Plans.{block_of, found_by_moving, is_recoverable}
-use Rattle.ecp_coord.proofs.EndWithLaws.{ends_any}
 use Rattle.ecp_coord.proofs.PlanningLaws.{event_after}
 
 -- ---- what is found where a plan does not stand
@@ -60,9 +60,8 @@ module _ (shape : Shape) (told : Bool) (s x t : SequencerState) (v q w : PassSta
       (subst (λ (y : SequencerState). Event shape told x q [] (note (length y.history) (room_noted v.notes - 1) what ∷ []) t w) same_x
       (subst (λ (notes : Log). Event shape told x q [] (note (length x.history) (room_noted notes - 1) what ∷ []) t w) (ap (λ (y : PassState). y.notes) (same_q ∙ renewed)) event))
 
-  -- the end of the open call, at its own position
-  pub ends_met : (point : ℕ) (act : Act) → q ≡ v → point ≡ length x.history → EndsBy shape told x q point act [] t w → EndsAny shape told s v act t w
-  ends_met point act same_q here by =
-      ends_any shape told s t v w act
-      (subst (λ (n : ℕ). EndsBy shape told s v n act [] t w) (here ∙ ap (λ (y : SequencerState). length y.history) same_x)
-      (subst (λ (y : SequencerState). EndsBy shape told y v point act [] t w) same_x (subst (λ (r : PassState). EndsBy shape told x r point act [] t w) same_q by)))
+  -- a part of the open call, at its own position
+  pub ends_met : (at : Part) (point : ℕ) (act : Act) → q ≡ v → point ≡ length x.history → EndsBy shape told x q at point act [] t w → EndsAny shape told s v at act t w
+  ends_met at point act same_q here by =
+      subst (λ (n : ℕ). EndsBy shape told s v at n act [] t w) (here ∙ ap (λ (y : SequencerState). length y.history) same_x)
+      (subst (λ (y : SequencerState). EndsBy shape told y v at point act [] t w) same_x (subst (λ (r : PassState). EndsBy shape told x r at point act [] t w) same_q by))

@@ -1,4 +1,4 @@
--- The receipts of the rows of a put of one byte, each from the place that the reservation gives it, are those of the put.
+-- The receipts of the rows of a put of one stripe, whose rows have one byte, each from the place that the reservation gives it, are those of the put.
 use Rattle.std.proofs.Common.{◌≡◌, ℕ, zero, suc, ◌+◌, ◌*◌, ◌/◌, ◌%◌, ◌<◌, ◌≤◌, ◌==◌, Bool, true, false, cond, List, [], ◌∷◌, length, map, Option, Some, None, refl, sym, ◌∙◌, ap, subst, arith, inl, inr, mul-le-mul_right}
 use Rattle.std.specs.Prelude.{All, slice_get}
 use Rattle.std.specs.Int.{bit_at}
@@ -77,9 +77,9 @@ place_up t s r few some =
 
 -- ---- the receipts
 
--- the sizes: so many rows a stripe, one of them data, on so many nodes
-abbrev pub sized : ℕ → ℕ → Shape
-sized n nodes = record { n = n; k = 1; nodes = nodes; block = 1 }
+-- the sizes: so many rows of one byte a stripe, so many of them data, on so many nodes
+abbrev pub sized : ℕ → ℕ → ℕ → Shape
+sized n k nodes = record { n = n; k = k; nodes = nodes; block = 1 }
 
 first_of : (i n r : ℕ) → i * n + r < n → i ≡ 0
 first_of i n r lt = elim (cases_lt 0 i) [
@@ -87,9 +87,9 @@ first_of i n r lt = elim (cases_lt 0 i) [
   | inr none ↦ omega (arith, none)
 ]
 
-kept_at : (n nodes : ℕ) (t : PlainTable) {N : Type 0} (res : Reservation N) (i r : ℕ) (blocks : List (List ℕ)) (x : ReceiptState) → length t.nodes ≤ MAX_NODES → 1 ≤ up_count t → ArePlaces (sized n nodes) t res
-    → i ≡ 0 → IsRowOf res r x → IsKeptAt (sized n nodes) false t res.up (res.first + i) r blocks x
-kept_at n nodes t res i r blocks x few some places first row =
+kept_at : (n k nodes : ℕ) (t : PlainTable) {N : Type 0} (res : Reservation N) (i r : ℕ) (blocks : List (List ℕ)) (x : ReceiptState) → length t.nodes ≤ MAX_NODES → 1 ≤ up_count t → ArePlaces (sized n k nodes) t res
+    → i ≡ 0 → IsRowOf res r x → IsKeptAt (sized n k nodes) false t res.up (res.first + i) r blocks x
+kept_at n k nodes t res i r blocks x few some places first row =
     let same : res.first ≡ res.first + i = omega (arith, first) in
     let node : x.node ≡ place (up_mask t) res.first r = row.node ∙ ap (λ (k : ℕ). place k res.first r) places.nodes in
     let up : IsUpAt t x.node = subst (IsUpAt t) (sym node) (place_up t res.first r few some) in
@@ -102,29 +102,29 @@ kept_at n nodes t res i r blocks x few some places first row =
       bytes = row.bytes;
     }
 
-module _ (n nodes : ℕ) {N : Type 0} (p : PassState) (res : Reservation N) (few : nodes ≤ 32) (some : 1 ≤ n) (is : IsReserved (sized n nodes) false p res) where
-  receipts_in : (content : List ℕ) (rows : List ReceiptState) → res.len ≡ 1 → length content ≡ 1 → AreRowsOf res n rows → AreReceipts (sized n nodes) false res content rows
+module _ (n k nodes : ℕ) {N : Type 0} (p : PassState) (res : Reservation N) (few : nodes ≤ 32) (some : 1 ≤ n) (is : IsReserved (sized n k nodes) false p res) where
+  receipts_in : (content : List ℕ) (rows : List ReceiptState) → stripe_count k 1 res.len ≡ 1 → length content ≡ res.len → AreRowsOf res n rows → AreReceipts (sized n k nodes) false res content rows
   receipts_in content rows one size are =
-      let counted : res.stripes ≡ 1 = is.counted ∙ ap (λ (len : ℕ). stripe_count 1 1 len) one in
+      let counted : res.stripes ≡ 1 = is.counted ∙ one in
       record {
-        len = size ∙ sym one;
+        len = size;
         full = are.count ∙ (let whole : n ≡ 1 * n = omega arith in whole) ∙ ap (λ (m : ℕ). m * n) (sym counted);
         kept = λ i r blocks x there low here.
             let within : i * n + r < length rows = slice_get_within rows (i * n + r) x here in
             let first : i ≡ 0 = first_of i n r (subst (λ (m : ℕ). i * n + r < m) are.count within) in
             let at : slice_get rows (0 * n + r) ≡ Some x = subst (λ (j : ℕ). slice_get rows (j * n + r) ≡ Some x) first here in
             let row : slice_get rows r ≡ Some x = subst (λ (j : ℕ). slice_get rows j ≡ Some x) (let plain : 0 * n + r ≡ r = omega arith in plain) at in
-            let size : length (told_table (sized n nodes) res.front.items).nodes ≡ nodes = nodes-count (sized n nodes) (history_of res.front.items) in
-            let enough : n ≤ up_count (told_table (sized n nodes) res.front.items) = is.places.enough in
-            kept_at n nodes (told_table (sized n nodes) res.front.items) res i r blocks x (omega (arith, size, few)) (omega (arith, some, enough)) is.places first (are.each r x row);
+            let size : length (told_table (sized n k nodes) res.front.items).nodes ≡ nodes = nodes-count (sized n k nodes) (history_of res.front.items) in
+            let enough : n ≤ up_count (told_table (sized n k nodes) res.front.items) = is.places.enough in
+            kept_at n k nodes (told_table (sized n k nodes) res.front.items) res i r blocks x (omega (arith, size, few)) (omega (arith, some, enough)) is.places first (are.each r x row);
       }
 
-pub receipts_are : (n nodes : ℕ) {N : Type 0} (shape : Shape) (told : Bool) (p : PassState) (res : Reservation N) (content : List ℕ) (rows : List ReceiptState) → shape ≡ sized n nodes → told ≡ false → nodes ≤ 32 → 1 ≤ n
-    → IsReserved shape told p res → res.len ≡ 1 → length content ≡ 1 → AreRowsOf res n rows → AreReceipts shape told res content rows
-receipts_are n nodes shape told p res content rows sizes none few some is one size are =
-    let in_sizes : IsReserved (sized n nodes) false p res = subst (λ (b : Bool). IsReserved (sized n nodes) b p res) none (subst (λ (z : Shape). IsReserved z told p res) sizes is) in
+pub receipts_are : (n k nodes : ℕ) {N : Type 0} (shape : Shape) (told : Bool) (p : PassState) (res : Reservation N) (content : List ℕ) (rows : List ReceiptState) → shape ≡ sized n k nodes → told ≡ false → nodes ≤ 32 → 1 ≤ n
+    → IsReserved shape told p res → stripe_count k 1 res.len ≡ 1 → length content ≡ res.len → AreRowsOf res n rows → AreReceipts shape told res content rows
+receipts_are n k nodes shape told p res content rows sizes none few some is one size are =
+    let in_sizes : IsReserved (sized n k nodes) false p res = subst (λ (b : Bool). IsReserved (sized n k nodes) b p res) none (subst (λ (z : Shape). IsReserved z told p res) sizes is) in
     subst (λ (z : Shape). AreReceipts z told res content rows) (sym sizes)
-    (subst (λ (b : Bool). AreReceipts (sized n nodes) b res content rows) (sym none) (receipts_in n nodes p res few some in_sizes content rows one size are))
+    (subst (λ (b : Bool). AreReceipts (sized n k nodes) b res content rows) (sym none) (receipts_in n k nodes p res few some in_sizes content rows one size are))
 
 -- ---- a put that a loss overtook has its places
 

@@ -15,10 +15,11 @@ use Rattle.ecp_shape.specs.declared.shape.Shape.{Shape}
 use Rattle.ecp_shape.specs.Range.{IsInRange}
 use Rattle.ecp_book.specs.Logs.{Known, Log}
 use Rattle.ecp_entry.specs.declared.deed.Deed.{Deed}
-use Rattle.ecp_entry.specs.declared.part.Part.TheVariants as part
 use Rattle.ecp_entry.specs.Told.{history_of, items_by}
 use Rattle.ecp_history.specs.declared.table.block_name.BlockName.{BlockName}
 use Rattle.ecp_history.specs.declared.table.standing.Standing.{Standing}
+use Rattle.ecp_history.specs.Calls.{OfBlock, place_of}
+use Rattle.ecp_history.specs.Calls as calling
 use Rattle.ecp_history.specs.Follows.{is_voiding}
 use Rattle.ecp_history.specs.Fronts.{AreOfBlock, told_table}
 use Rattle.ecp_history.specs.Legal.{TellsLegal}
@@ -41,8 +42,9 @@ use Rattle.ecp_sequencer.specs.Steps.{Event, call_with}
 use Rattle.ecp_sequencer.proofs.NoteLaws.{facts-other}
 use Rattle.ecp_coord.specs.Attempts.{IsOf, lanes_for}
 use Rattle.ecp_coord.specs.Calls.{IsOpen}
-use Rattle.ecp_coord.specs.Plans.{AreChosen, IsPlanned, block_of, is_recoverable, plan_says, planned, planning_of, plans_noted}
+use Rattle.ecp_coord.specs.Plans.{AreChosen, IsDue, IsPlanned, block_of, is_recoverable, plan_says, planned, planning_of, plans_noted}
 use Rattle.ecp_coord.specs.Voids.{AreVoids}
+use Rattle.ecp_coord.proofs.DueLaws.{due_by}
 use Rattle.ecp_coord.proofs.HelpLaws.{IsHelper, helpers_are, live_same}
 
 -- a block that can be had is of a stripe that is there
@@ -175,20 +177,22 @@ planned-more was point room plan =
     ∙ map-append says_of (filter (λ y. kind_of y == planned) (facts_of was).since) (x ∷ [])
 
 -- what a plan is beside its notes
-pub record IsFit (shape : Shape) (told : Bool) (asked : Deed) (hand : ℕ) {N : Type 0} (plan : Plan N) : Type 0 where
+pub record IsFit (shape : Shape) (told : Bool) (asked : Deed) (v : PassState) {N : Type 0} (plan : Plan N) : Type 0 where
   pub sound : IsSound shape told plan
-  pub block : deed_block shape (told_table shape plan.front.items) part.End (Some asked) ≡ Some (block_of plan)
+  pub of_block : OfBlock (calling.kind_of (Some asked)) (place_of plan.part)
+  pub due : IsDue shape v asked plan.part plan.front.items
+  pub block : deed_block shape (told_table shape plan.front.items) plan.part (Some asked) ≡ Some (block_of plan)
   pub recoverable : IsRecoverable shape (told_table shape plan.front.items) plan.stripe plan.row
   pub attempt : plan.attempt ≡ plan.voids.len + 1
   pub most : plan.attempt ≤ MAX_ATTEMPTS
-  pub voids : AreVoids shape (λ t x. is_voiding t plan.stripe x) hand plan.front.items plan.voids
+  pub voids : AreVoids shape (λ t x. is_voiding t plan.stripe x) v.hand plan.front.items plan.voids
   pub fits : shape.k ≤ vec_capacity plan.hops
   pub live : All (λ h. is_live_on (told_table shape plan.front.items) plan.stripe h.row h.node ≡ true) plan.hops.items
   pub onto : plan.to ≡ None
 
 module _ (shape : Shape) (told : Bool) (s t : SequencerState) (v w : PassState) (asked : Deed) (room : ℕ) {N : Type 0} (plan : Plan N) where
-  pub planned_is : Event shape told s v [] (note (length s.history) room (planning_of plan) ∷ []) t w → w.calls ≡ v.calls → IsOpen v asked → 1 ≤ room → MAX_ATTEMPTS + 1 ≤ room + plan.attempt
-      → plan.front.items ≡ s.history → plan.point ≡ length s.history → IsFit shape told asked v.hand plan → IsPlanned shape told w plan
+  pub planned_is : Event shape told s v [] (note (length s.history) room (planning_of plan) ∷ []) t w → w.calls ≡ v.calls → IsOpen v asked → 1 ≤ room → MAX_ATTEMPTS + 2 ≤ room + plan.attempt
+      → plan.front.items ≡ s.history → plan.point ≡ length s.history → IsFit shape told asked v plan → IsPlanned shape told w plan
   planned_is event calls open_call some enough front point fit =
       let noted : Log = v.notes ++ note (length s.history) room (planning_of plan) ∷ [] in
       let facts = ap (λ (ns : Log). facts_of ns) event.steps.noted ∙ facts-other v.notes (length s.history) room (planning_of plan) (omega arith) in
@@ -202,6 +206,8 @@ module _ (shape : Shape) (told : Bool) (s t : SequencerState) (v w : PassState) 
         };
         last = (plans_noted v.notes, ap (λ (ns : Log). plans_noted ns) event.steps.noted ∙ planned-more v.notes (length s.history) room plan);
         sound = fit.sound;
+        of_block = fit.of_block;
+        due = due_by shape v w asked plan.part plan.front.items event.steps.caller calls fit.due;
         block = fit.block;
         recoverable = fit.recoverable;
         point = point ∙ ap (λ (xs : Log). length xs) (sym front);

@@ -1,9 +1,8 @@
 -- A plan that does not stand: the plan of the next attempt, or the entry that ends the call.
-use Rattle.std.proofs.Common.{◌≡◌, ℕ, ◌+◌, ◌-◌, ◌<◌, ◌≤◌, ◌==◌, Bool, true, false, cond, not, List, [], ◌∷◌, ◌++◌, length, map, take, drop, get_or, replicate, Option, Some, None, IsSome, refl, sym, ◌∙◌, ap, subst, arith, inl, append-nil, length-drop, length-append, length-take-le}
+use Rattle.std.proofs.Common.{◌≡◌, ℕ, zero, suc, ◌+◌, ◌-◌, ◌<◌, ◌≤◌, ◌==◌, Bool, true, false, cond, not, List, [], ◌∷◌, ◌++◌, length, map, take, drop, get_or, replicate, Option, Some, None, IsSome, refl, sym, ◌∙◌, ap, subst, arith, inl, inr, append-nil, length-drop, length-append, length-take-le}
 use Rattle.std.specs.Prelude.{All, IsSomeAnd, IsTrue, MatchOption, nat_le, ⊤}
 use Rattle.std.specs.List.Sorted.{IsStrictlyIncreasing}
 use mathlib.Core.List.{IsPrefix}
-use Rattle.std.proofs.lemmas.Bool.{false≢true}
 use Rattle.std.proofs.lemmas.Bool.Decides.{nat_tests}
 use Rattle.std.proofs.lemmas.List.{length-map, get_or-map, take-append-drop}
 use Rattle.ecp_shape.specs.declared.limits.TheConstants.{MAX_ATTEMPTS, MAX_NODES}
@@ -14,17 +13,19 @@ use Rattle.ecp_entry.specs.declared.act.Act.TheVariants as act
 use Rattle.ecp_entry.specs.declared.deed.Deed.{Deed}
 use Rattle.ecp_entry.specs.declared.deed.Deed.TheVariants as deed
 use Rattle.ecp_entry.specs.declared.entry.Entry.{Entry}
+use Rattle.ecp_entry.specs.declared.part.Part.{Part}
 use Rattle.ecp_entry.specs.declared.part.Part.TheVariants as part
 use Rattle.ecp_entry.specs.Told.{history_of}
 use Rattle.ecp_entry.proofs.ToldLaws.{history_of-append}
 use Rattle.ecp_history.specs.declared.table.block_name.BlockName.{BlockName}
 use Rattle.ecp_history.specs.Acts.{LacksRows, ReadUnsteady, UnsteadyFor}
-use Rattle.ecp_history.specs.Calls.{Kind, ToRead, kind_of}
+use Rattle.ecp_history.specs.Calls.{Kind, OfBlock, ToRead, kind_of, place_of}
 use Rattle.ecp_history.specs.Follows.{AreOvertaking, follows, is_voiding, passes_at}
 use Rattle.ecp_history.specs.Files.{is_stored}
 use Rattle.ecp_history.specs.Fronts.{told_table}
 use Rattle.ecp_history.specs.Legal.{IsLegal, MayFollow}
 use Rattle.ecp_history.specs.Named.{deed_block}
+use Rattle.ecp_history.specs.Parts.{PartFits, refuses}
 use Rattle.ecp_history.specs.Recoverable.{IsRecoverable}
 use Rattle.ecp_history.specs.table.Steps.{table_of}
 use Rattle.ecp_history.specs.table.Tables.{PlainTable, is_live, live_rows, standing_of}
@@ -41,15 +42,15 @@ use Rattle.ecp_sequencer.specs.Steps.{Event}
 use Rattle.ecp_coord.specs.declared.replanned.Replanned.{Replanned}
 use Rattle.ecp_coord.specs.declared.replanned.Replanned.TheVariants as re
 use Rattle.ecp_coord.specs.Attempts.{IsNext}
-use Rattle.ecp_coord.specs.Calls.{EndsAny, IsOpen, closing, ended}
+use Rattle.ecp_coord.specs.Calls.{EndsAny, IsOpen, closing}
 use Rattle.ecp_coord.specs.Coords.{CoordParts, IsCoord}
 use Rattle.ecp_coord.specs.Helping.{CanHelp}
-use Rattle.ecp_coord.specs.Plans.{Did, IsPlanned, Moves, Replans, Stands, block_of, end_of, first_void, found_by_moving, is_recoverable, planning_of}
+use Rattle.ecp_coord.specs.Plans.{Did, IsDue, IsPlanned, Moves, Replans, Stands, block_of, end_of, first_void, found_by_moving, is_recoverable, planning_of}
 use Rattle.ecp_coord.specs.Voids.{AreVoids, positions_of}
 use Rattle.ecp_coord.proofs.AnyLaws.{or_none}
 use Rattle.ecp_coord.proofs.AttemptLaws.{state}
-use Rattle.ecp_coord.proofs.CallLaws.{reads_block}
-use Rattle.ecp_coord.proofs.EndLaws.{may_end}
+use Rattle.ecp_coord.proofs.DueLaws.{due_goes}
+use Rattle.ecp_coord.proofs.EndLaws.{may_close}
 use Rattle.ecp_coord.proofs.EndWithLaws.{one_asked}
 use Rattle.ecp_coord.proofs.FirstLaws.{first_void_is}
 use Rattle.ecp_coord.proofs.FollowLaws.{IsMet, follows_upto}
@@ -98,15 +99,17 @@ few_attempts attempt kept is most off = grind (arith, nat_tests)
 
 -- a block that a call asks for and that is not live is lost
 asked_stands : (shape : Shape) (told : Bool) (s : SequencerState) (v : PassState) (callers spares : ℕ) (p : CoordParts) (is : IsCoord shape told callers spares s p) (met : IsMet shape told callers spares s v)
-    (asked : Deed) (b : BlockName) → deed_block shape (table_of shape (history_of s.history)) part.End (Some asked) ≡ Some b → IsSome (standing_of (table_of shape (history_of s.history)) b.stripe b.row)
-asked_stands shape told s v callers spares p is met (deed.Put name len) b named = absurd (cc)
-asked_stands shape told s v callers spares p is met (deed.Read name index) b named = block_stands shape told p.catalog (history_of s.history) name index b is.range met.kept.legal.legal is.outline named
-asked_stands shape told s v callers spares p is met (deed.Sum name index) b named = block_stands shape told p.catalog (history_of s.history) name index b is.range met.kept.legal.legal is.outline named
-asked_stands shape told s v callers spares p is met (deed.Cat name) b named = absurd (cc)
-asked_stands shape told s v callers spares p is met (deed.Lose node) b named = absurd (cc)
-asked_stands shape told s v callers spares p is met (deed.Join node) b named = absurd (cc)
-asked_stands shape told s v callers spares p is met (deed.Rebuild from to) b named = absurd (cc)
-asked_stands shape told s v callers spares p is met (deed.Stat name) b named = absurd (cc)
+    (asked : Deed) (at : Part) (b : BlockName) → deed_block shape (table_of shape (history_of s.history)) at (Some asked) ≡ Some b → IsSome (standing_of (table_of shape (history_of s.history)) b.stripe b.row)
+asked_stands shape told s v callers spares p is met (deed.Put name len) at b named = absurd (cc)
+asked_stands shape told s v callers spares p is met (deed.Read name index) at b named = block_stands shape told p.catalog (history_of s.history) name index b is.range met.kept.legal.legal is.outline named
+asked_stands shape told s v callers spares p is met (deed.Sum name index) at b named = block_stands shape told p.catalog (history_of s.history) name index b is.range met.kept.legal.legal is.outline named
+asked_stands shape told s v callers spares p is met (deed.Cat name) (part.Part zero) b named = absurd (cc)
+asked_stands shape told s v callers spares p is met (deed.Cat name) (part.Part (suc j)) b named = block_stands shape told p.catalog (history_of s.history) name j b is.range met.kept.legal.legal is.outline named
+asked_stands shape told s v callers spares p is met (deed.Cat name) part.End b named = absurd (cc)
+asked_stands shape told s v callers spares p is met (deed.Lose node) at b named = absurd (cc)
+asked_stands shape told s v callers spares p is met (deed.Join node) at b named = absurd (cc)
+asked_stands shape told s v callers spares p is met (deed.Rebuild from to) at b named = absurd (cc)
+asked_stands shape told s v callers spares p is met (deed.Stat name) at b named = absurd (cc)
 
 module _ (shape : Shape) (told : Bool) (callers spares : ℕ) (s : SequencerState) (v : PassState) (p : CoordParts) (is : IsCoord shape told callers spares s p) (met : IsMet shape told callers spares s v) where
   module _ {N : Type 0} (plan : Plan N) (planned : IsPlanned shape told v plan) (begins : IsPrefix plan.front.items s.history) where
@@ -123,13 +126,14 @@ module _ (shape : Shape) (told : Bool) (callers spares : ℕ) (s : SequencerStat
     whole_is = ap (λ (xs : Log). history_of xs) (sym begins.1) ∙ history_of-append plan.front.items begins.0
 
     -- the call asks for the same block
-    pub asked_now : deed_block shape (table_of shape (history_of s.history)) part.End (Some planned.asked) ≡ Some (block_of plan)
+    pub asked_now : deed_block shape (table_of shape (history_of s.history)) plan.part (Some planned.asked) ≡ Some (block_of plan)
     asked_now =
-        subst (λ (es : List Entry). deed_block shape (table_of shape es) part.End (Some planned.asked) ≡ Some (block_of plan)) (sym whole_is)
-        (block_stays shape told planned.asked (block_of plan) (history_of plan.front.items) (history_of begins.0) (subst (IsLegal shape told) whole_is met.kept.legal.legal) planned.block)
+        subst (λ (es : List Entry). deed_block shape (table_of shape es) plan.part (Some planned.asked) ≡ Some (block_of plan)) (sym whole_is)
+        (block_stays shape told planned.asked plan.part (block_of plan) (history_of plan.front.items) (history_of begins.0) (subst (IsLegal shape told) whole_is met.kept.legal.legal) planned.block)
 
-    pub reads : kind_of (Some planned.asked) ≡ ToRead
-    reads = reads_block shape (table_of shape (history_of s.history)) planned.asked (block_of plan) asked_now
+    -- what must stand before the part stands there
+    due_now : (what : Act) → refuses what ≡ false → PartFits shape (history_of s.history) (closing v planned.asked plan.part (length (history_of s.history)) what []) plan.part
+    due_now what off = due_goes shape v planned.asked plan.part plan.front.items s.history begins planned.of_block planned.due (length (history_of s.history)) what [] off
 
     pub next_can : is_recoverable shape (table_of shape (history_of s.history)) (block_of plan) ≡ true → CanHelp p.catalog (block_of plan)
     next_can had = can_help shape told p.catalog (history_of s.history) is.outline is.each_node (block_of plan) is.range met.kept.legal.legal planned.sound.sound.of_row had
@@ -157,6 +161,7 @@ module _ (shape : Shape) (told : Bool) (callers spares : ℕ) (s : SequencerStat
           let front : new.front.items ≡ s.history = ap (λ (k : Known). k.items) next.made.front in
           let stripe : new.stripe ≡ plan.stripe = ap (λ (q : Plan N). q.stripe) next.same in
           let row : new.row ≡ plan.row = ap (λ (q : Plan N). q.row) next.same in
+          let at_part : new.part ≡ plan.part = ap (λ (q : Plan N). q.part) next.same in
           let block : block_of new ≡ block_of plan = ap (λ (q : Plan N). block_of q) next.same in
           let size : new.block ≡ plan.block = ap (λ (q : Plan N). q.block) next.same in
           let cut : new.slice ≡ plan.slice = ap (λ (q : Plan N). q.slice) next.same in
@@ -165,10 +170,15 @@ module _ (shape : Shape) (told : Bool) (callers spares : ℕ) (s : SequencerStat
           let attempt : new.attempt ≡ plan.attempt + 1 = ap (λ (q : Plan N). q.attempt) next.same in
           let own : is_recoverable shape u (block_of new) ≡ true = ap (is_recoverable shape u) block ∙ had in
           let more : plan.voids.len + 1 < MAX_ATTEMPTS = few plan.voids.len room_left (omega (arith, planned.attempt, planned.most)) in
-          let fit : IsFit shape told planned.asked v.hand new = record {
+          let fit : IsFit shape told planned.asked v new = record {
             sound = made_sound shape told p.catalog s.history is.range met.kept.legal is.outline is.each_node x.stamps cyclic new next.made (omega (arith, row, planned.sound.sound.of_row))
                 (size ∙ planned.sound.sound.len_is) (omega (arith, cut, planned.sound.sound.some)) (omega (arith, cut, planned.sound.sound.within, planned.sound.sound.len_is)) own;
-            block = ap (λ (items : Log). deed_block shape (told_table shape items) part.End (Some planned.asked)) front ∙ asked_now ∙ ap (λ (b : BlockName). Some b) (sym block);
+            of_block = subst (λ (r : Part). OfBlock (kind_of (Some planned.asked)) (place_of r)) (sym at_part) planned.of_block;
+            due = subst (λ (items : Log). IsDue shape v planned.asked new.part items) (sym front)
+                (subst (λ (r : Part). IsDue shape v planned.asked r s.history) (sym at_part)
+                (due_goes shape v planned.asked plan.part plan.front.items s.history begins planned.of_block planned.due 0 act.Data [] refl));
+            block = ap (λ (r : Part). deed_block shape (told_table shape new.front.items) r (Some planned.asked)) at_part
+                ∙ ap (λ (items : Log). deed_block shape (told_table shape items) plan.part (Some planned.asked)) front ∙ asked_now ∙ ap (λ (b : BlockName). Some b) (sym block);
             recoverable = subst (λ (items : Log). IsRecoverable shape (told_table shape items) new.stripe new.row) (sym front) (recoverable shape u (block_of new) own);
             attempt = omega (arith, attempt, planned.attempt, count, len);
             most = omega (arith, attempt, planned.attempt, more);
@@ -220,16 +230,16 @@ module _ (shape : Shape) (told : Bool) (callers spares : ℕ) (s : SequencerStat
       lost off =
           let parts = or_none (is_live (table_of shape (history_of s.history)) plan.stripe plan.row) (nat_le shape.k (live_rows (table_of shape (history_of s.history)) plan.stripe)) off in
           record {
-            lost = stands_lost (table_of shape (history_of s.history)) plan.stripe plan.row (asked_stands shape told s v callers spares p is met planned.asked (block_of plan) asked_now) parts.0;
+            lost = stands_lost (table_of shape (history_of s.history)) plan.stripe plan.row (asked_stands shape told s v callers spares p is met planned.asked plan.part (block_of plan) asked_now) parts.0;
             counted = refl;
             few = (let low : nat_le shape.k (live_rows (table_of shape (history_of s.history)) plan.stripe) ≡ false = parts.1 in grind (arith, nat_tests));
           }
 
       pub lost_follows : is_recoverable shape (table_of shape (history_of s.history)) (block_of plan) ≡ false
-          → MayFollow shape told (history_of s.history) (ended v planned.asked (length (history_of s.history)) (act.Unrecoverable (live_rows (table_of shape (history_of s.history)) plan.stripe)))
+          → MayFollow shape told (history_of s.history) (closing v planned.asked plan.part (length (history_of s.history)) (act.Unrecoverable (live_rows (table_of shape (history_of s.history)) plan.stripe)) [])
       lost_follows off =
-          may_end shape told (history_of s.history) v planned.asked (act.Unrecoverable (live_rows (table_of shape (history_of s.history)) plan.stripe)) met.session (inl (reads, refl)) refl
-          (λ no_call. absurd (false≢true no_call))
+          may_close shape told (history_of s.history) v planned.asked plan.part (act.Unrecoverable (live_rows (table_of shape (history_of s.history)) plan.stripe)) met.session planned.of_block refl
+          (due_now (act.Unrecoverable (live_rows (table_of shape (history_of s.history)) plan.stripe)) refl)
           (subst (λ (o : Option BlockName). IsSomeAnd o (LacksRows shape (table_of shape (history_of s.history)) (live_rows (table_of shape (history_of s.history)) plan.stripe))) (sym asked_now) (lost off))
 
       -- sixteen positions
@@ -260,27 +270,34 @@ module _ (shape : Shape) (told : Bool) (callers spares : ℕ) (s : SequencerStat
         each = subst (All (λ u. IsTrue (passes_at shape (history_of s.history) (λ t x. is_voiding t plan.stripe x) u))) (full_at full) all_kept.each;
       }
 
+      abbrev Unsteadily : Kind → Type 0
+      Unsteadily k = UnsteadyFor shape (history_of s.history) (table_of shape (history_of s.history)) (closing v planned.asked plan.part (length (history_of s.history)) (act.Unsteady vs.at) []) vs.at k
+
       pub unsteady_follows : is_recoverable shape (table_of shape (history_of s.history)) (block_of plan) ≡ true → vs.len ≡ MAX_ATTEMPTS
-          → MayFollow shape told (history_of s.history) (ended v planned.asked (length (history_of s.history)) (act.Unsteady vs.at))
+          → MayFollow shape told (history_of s.history) (closing v planned.asked plan.part (length (history_of s.history)) (act.Unsteady vs.at) [])
       unsteady_follows had full =
-          let e : Entry = ended v planned.asked (length (history_of s.history)) (act.Unsteady vs.at) in
+          let e : Entry = closing v planned.asked plan.part (length (history_of s.history)) (act.Unsteady vs.at) [] in
           let u : PlainTable = table_of shape (history_of s.history) in
-          may_end shape told (history_of s.history) v planned.asked (act.Unsteady vs.at) met.session (inl (inl (reads, refl))) refl (λ no_call. absurd (false≢true no_call))
-          (subst (λ (k : Kind). UnsteadyFor shape (history_of s.history) u e vs.at k) (sym reads)
+          may_close shape told (history_of s.history) v planned.asked plan.part (act.Unsteady vs.at) met.session (inl planned.of_block) refl (due_now (act.Unsteady vs.at) refl)
+          (of_kind planned.of_block
           (subst (λ (o : Option BlockName). IsSomeAnd o (ReadUnsteady shape (history_of s.history) u e vs.at)) (sym asked_now)
           (record { recoverable = recoverable shape u (block_of plan) had; voids = overtaken e refl full })))
+        where
+          of_kind : OfBlock (kind_of (Some planned.asked)) (place_of plan.part) → Unsteadily ToRead → Unsteadily (kind_of (Some planned.asked))
+          of_kind (inl of) is = subst Unsteadily (sym of.0) is
+          of_kind (inr of) is = subst Unsteadily (sym of.0) is
 
       -- what is found decides
       abbrev Goes : Replanned → Type 0
-      Goes r = MatchOption (end_of vs r) ⊤ (λ what. (asked : Deed) → IsOpen v asked → MayFollow shape told (history_of s.history) (ended v asked (length (history_of s.history)) what))
+      Goes r = MatchOption (end_of vs r) ⊤ (λ what. (asked : Deed) → IsOpen v asked → MayFollow shape told (history_of s.history) (closing v asked plan.part (length (history_of s.history)) what []))
 
       pub moving_follows : (found : Replanned) → found ≡ found_by_moving shape (table_of shape (history_of s.history)) plan
-          → MatchOption (end_of vs found) ⊤ (λ what. (asked : Deed) → IsOpen v asked → MayFollow shape told (history_of s.history) (ended v asked (length (history_of s.history)) what))
+          → MatchOption (end_of vs found) ⊤ (λ what. (asked : Deed) → IsOpen v asked → MayFollow shape told (history_of s.history) (closing v asked plan.part (length (history_of s.history)) what []))
       moving_follows found found_is = subst Goes (sym found_is) (by_had (is_recoverable shape (table_of shape (history_of s.history)) (block_of plan)) refl) where
-        for_all : (what : Act) → MayFollow shape told (history_of s.history) (ended v planned.asked (length (history_of s.history)) what)
-            → (asked : Deed) → IsOpen v asked → MayFollow shape told (history_of s.history) (ended v asked (length (history_of s.history)) what)
+        for_all : (what : Act) → MayFollow shape told (history_of s.history) (closing v planned.asked plan.part (length (history_of s.history)) what [])
+            → (asked : Deed) → IsOpen v asked → MayFollow shape told (history_of s.history) (closing v asked plan.part (length (history_of s.history)) what [])
         for_all what goes asked open_call =
-            subst (λ (d : Deed). MayFollow shape told (history_of s.history) (ended v d (length (history_of s.history)) what)) (one_asked v planned.asked asked planned.is_open open_call) goes
+            subst (λ (d : Deed). MayFollow shape told (history_of s.history) (closing v d plan.part (length (history_of s.history)) what [])) (one_asked v planned.asked asked planned.is_open open_call) goes
 
         by_full : (full : Bool) → plan.voids.len + 1 == MAX_ATTEMPTS ≡ full → is_recoverable shape (table_of shape (history_of s.history)) (block_of plan) ≡ true → Goes (cond full re.Unsteady re.Planned)
         by_full false off had = tt
@@ -292,38 +309,38 @@ module _ (shape : Shape) (told : Bool) (callers spares : ℕ) (s : SequencerStat
         by_had true on = by_full (plan.voids.len + 1 == MAX_ATTEMPTS) refl on
 
       pub moving_goes : (found : Replanned) → found ≡ found_by_moving shape (table_of shape (history_of s.history)) plan → (what : Act) → end_of vs found ≡ Some what
-          → (asked : Deed) → IsOpen v asked → MayFollow shape told (history_of s.history) (closing v asked (length s.history) what [])
+          → (asked : Deed) → IsOpen v asked → MayFollow shape told (history_of s.history) (closing v asked plan.part (length s.history) what [])
       moving_goes found found_is what says asked open_call =
-          subst (λ (n : ℕ). MayFollow shape told (history_of s.history) (closing v asked n what [])) (length_told s.history)
-          (subst (λ (o : Option Act). MatchOption o ⊤ (λ a. (d : Deed) → IsOpen v d → MayFollow shape told (history_of s.history) (ended v d (length (history_of s.history)) a))) says (moving_follows found found_is) asked open_call)
+          subst (λ (n : ℕ). MayFollow shape told (history_of s.history) (closing v asked plan.part n what [])) (length_told s.history)
+          (subst (λ (o : Option Act). MatchOption o ⊤ (λ a. (d : Deed) → IsOpen v d → MayFollow shape told (history_of s.history) (closing v d plan.part (length (history_of s.history)) a []))) says (moving_follows found found_is) asked open_call)
 
       -- the same, as the calls say it
       pub goes_met : (x : SequencerState) (q : PassState) (point : ℕ) → x ≡ s → q ≡ v → point ≡ length x.history → (found : Replanned)
           → found ≡ found_by_moving shape (table_of shape (history_of s.history)) plan → (what : Act) → end_of vs found ≡ Some what
-          → (asked : Deed) → IsOpen q asked → MayFollow shape told (history_of x.history) (closing q asked point what [])
+          → (asked : Deed) → IsOpen q asked → MayFollow shape told (history_of x.history) (closing q asked plan.part point what [])
       goes_met x q point same_x same_q here found found_is what says =
-          subst (λ (y : SequencerState). (asked : Deed) → IsOpen q asked → MayFollow shape told (history_of y.history) (closing q asked point what [])) (sym same_x)
-          (subst (λ (r : PassState). (asked : Deed) → IsOpen r asked → MayFollow shape told (history_of s.history) (closing r asked point what [])) (sym same_q)
-          (subst (λ (n : ℕ). (asked : Deed) → IsOpen v asked → MayFollow shape told (history_of s.history) (closing v asked n what [])) (sym (here ∙ ap (λ (y : SequencerState). length y.history) same_x))
+          subst (λ (y : SequencerState). (asked : Deed) → IsOpen q asked → MayFollow shape told (history_of y.history) (closing q asked plan.part point what [])) (sym same_x)
+          (subst (λ (r : PassState). (asked : Deed) → IsOpen r asked → MayFollow shape told (history_of s.history) (closing r asked plan.part point what [])) (sym same_q)
+          (subst (λ (n : ℕ). (asked : Deed) → IsOpen v asked → MayFollow shape told (history_of s.history) (closing v asked plan.part n what [])) (sym (here ∙ ap (λ (y : SequencerState). length y.history) same_x))
           (moving_goes found found_is what says)))
 
       -- what is done where the call ends
       pub given_up : (t : SequencerState) (w : PassState) (x : StampsSeen) (repairs stripes slice : ℕ) (cyclic : Bool) (nodes : List Log) (found : Replanned) (what : Act) → end_of vs found ≡ Some what
-          → EndsAny shape told s v what t w
+          → EndsAny shape told s v plan.part what t w
           → Did shape told (state s x repairs stripes slice cyclic nodes) v plan (record plan { voids = vs }) (state t x repairs stripes slice cyclic nodes) w found
       given_up t w x repairs stripes slice cyclic nodes re.Planned what says ends = absurd (cc)
       given_up t w x repairs stripes slice cyclic nodes re.StillGood what says ends = absurd (cc)
       given_up t w x repairs stripes slice cyclic nodes (re.Unrecoverable live) what says ends =
           let same : act.Unrecoverable live ≡ what = cc in
-          record { ends = record { ends = subst (λ (a : Act). EndsAny shape told s v a t w) (sym same) ends; rest = refl }; moves = moves (record plan { voids = vs }) refl; same = refl }
+          record { ends = record { ends = subst (λ (a : Act). EndsAny shape told s v plan.part a t w) (sym same) ends; rest = refl }; moves = moves (record plan { voids = vs }) refl; same = refl }
       given_up t w x repairs stripes slice cyclic nodes (re.TargetDown node) what says ends = absurd (cc)
       given_up t w x repairs stripes slice cyclic nodes re.Unsteady what says ends =
           let same : act.Unsteady vs.at ≡ what = cc in
-          record { ends = record { ends = subst (λ (a : Act). EndsAny shape told s v a t w) (sym same) ends; rest = refl }; moves = moves (record plan { voids = vs }) refl; same = refl }
+          record { ends = record { ends = subst (λ (a : Act). EndsAny shape told s v plan.part a t w) (sym same) ends; rest = refl }; moves = moves (record plan { voids = vs }) refl; same = refl }
 
       -- the same, as the calls say it
       pub given_up_now : (t : SequencerState) (w : PassState) (y : StampsSeen) (repairs stripes slice : ℕ) (cyclic : Bool) (nodes : List Log) (front : Known) (found : Replanned) (what : Act)
-          → front ≡ plan.front → end_of vs found ≡ Some what → EndsAny shape told s v what t w
+          → front ≡ plan.front → end_of vs found ≡ Some what → EndsAny shape told s v plan.part what t w
           → Did shape told (state s y repairs stripes slice cyclic nodes) v plan (with_plan_front (with_voids plan vs) front) (state t y repairs stripes slice cyclic nodes) w found
       given_up_now t w y repairs stripes slice cyclic nodes front found what same_front says ends =
           subst (λ (f : Known). Did shape told (state s y repairs stripes slice cyclic nodes) v plan (with_plan_front (with_voids plan vs) f) (state t y repairs stripes slice cyclic nodes) w found)

@@ -8,6 +8,7 @@ use Rattle.ecp_sequencer.specs.Steps.{Event}
 use Rattle.ecp_coord.specs.declared.reservation.Reservation.{Reservation}
 use Rattle.ecp_coord.specs.Plans.{IsPlanned}
 use Rattle.ecp_coord.specs.Puts.{IsReserved}
+use Rattle.ecp_coord.proofs.DueLaws.{due_by}
 
 -- a reservation is one of a pass by the hand, the notes and the calls alone
 reserved_by : (shape : Shape) (told : Bool) {N : Type 0} (v w : PassState) (res : Reservation N) → w.notes ≡ v.notes → w.hand ≡ v.hand → w.calls ≡ v.calls → IsReserved shape told v res → IsReserved shape told w res
@@ -35,9 +36,10 @@ pub stays_reserved : (shape : Shape) (told : Bool) (s t : SequencerState) {N : T
     → IsReserved shape told w res
 stays_reserved shape told s t v w res event calls is = reserved_by shape told v w res (event.steps.noted ∙ append-nil v.notes) event.steps.hand calls is
 
--- a plan is one of a pass by the hand, the notes and the calls alone
-pub planned_by : (shape : Shape) (told : Bool) {N : Type 0} (v w : PassState) (plan : Plan N) → w.notes ≡ v.notes → w.hand ≡ v.hand → w.calls ≡ v.calls → IsPlanned shape told v plan → IsPlanned shape told w plan
-planned_by shape told v w plan notes hand calls is =
+-- a plan is one of a pass by the caller, the hand, the notes and the calls alone
+pub planned_by : (shape : Shape) (told : Bool) {N : Type 0} (v w : PassState) (plan : Plan N) → w.notes ≡ v.notes → w.caller ≡ v.caller → w.hand ≡ v.hand → w.calls ≡ v.calls → IsPlanned shape told v plan
+    → IsPlanned shape told w plan
+planned_by shape told v w plan notes caller hand calls is =
     record {
       asked = is.asked;
       is_open = record {
@@ -47,6 +49,8 @@ planned_by shape told v w plan notes hand calls is =
       };
       last = rw notes is.last;
       sound = is.sound;
+      of_block = is.of_block;
+      due = due_by shape v w is.asked plan.part plan.front.items caller calls is.due;
       block = is.block;
       recoverable = is.recoverable;
       point = is.point;
@@ -63,4 +67,4 @@ planned_by shape told v w plan notes hand calls is =
 -- a plan is still the pass's
 pub stays_planned : (shape : Shape) (told : Bool) (s t : SequencerState) {N : Type 0} (v w : PassState) (plan : Plan N) → Event shape told s v [] [] t w → w.calls ≡ v.calls → IsPlanned shape told v plan
     → IsPlanned shape told w plan
-stays_planned shape told s t v w plan event calls is = planned_by shape told v w plan (event.steps.noted ∙ append-nil v.notes) event.steps.hand calls is
+stays_planned shape told s t v w plan event calls is = planned_by shape told v w plan (event.steps.noted ∙ append-nil v.notes) event.steps.caller event.steps.hand calls is

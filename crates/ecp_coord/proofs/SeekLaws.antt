@@ -21,7 +21,7 @@ use Rattle.ecp_entry.specs.Entries.{deed_name, is_same_call}
 use Rattle.ecp_entry.specs.Told.{Made, history_of, items_by, made_from, made_of}
 use Rattle.ecp_history.specs.Acts.{HoldsIn, LacksBlock, LacksRows}
 use Rattle.ecp_history.specs.Calls.{AtEnd, FitsBytes, FitsCall, Kind, ToRead, kind_of}
-use Rattle.ecp_history.specs.Legal.{MayFollow}
+use Rattle.ecp_history.specs.Legal.{IsLegal, MayFollow}
 use Rattle.ecp_history.specs.Named.{block_at, deed_block, deed_index}
 use Rattle.ecp_history.specs.Parts.{IsAlone, refuses}
 use Rattle.ecp_history.specs.declared.table.block_name.BlockName.{BlockName}
@@ -93,6 +93,19 @@ of_block asked name index (inl is) = subst (λ (d : Deed). IsOfBlock d name inde
 of_block asked name index (inr is) = subst (λ (d : Deed). IsOfBlock d name index) (sym is) (record { kind = refl; named = refl; indexed = refl; block = λ shape t. refl })
 
 -- ---- a refusal
+
+-- a block of a file that cannot be had is lost, and too few rows of its stripe are live
+pub lacks_rows : (shape : Shape) (told : Bool) (c : CatalogState) (history : List Entry) (name : List ℕ) (index : ℕ) (b : BlockName) → IsInRange shape → IsLegal shape told history → IsOutline shape told c history
+    → block_at shape (table_of shape history) name index ≡ Some b → is_recoverable shape (table_of shape history) b ≡ false
+    → LacksRows shape (table_of shape history) (live_rows (table_of shape history) b.stripe) b
+lacks_rows shape told c history name index b range legal is named off =
+    let t : PlainTable = table_of shape history in
+    let parts = or_none (is_live t b.stripe b.row) (nat_le shape.k (live_rows t b.stripe)) off in
+    record {
+      lost = stands_lost t b.stripe b.row (block_stands shape told c history name index b range legal is named) parts.0;
+      counted = refl;
+      few = (let low : nat_le shape.k (live_rows t b.stripe) ≡ false = parts.1 in grind (arith, nat_tests));
+    }
 
 -- a call of which the hand has no entry has none in the history
 module _ (callers spares caller hand number : ℕ) (e : Entry) (by : e.line.caller ≡ caller) (of : e.line.call ≡ number) (session : caller < MAX_SESSIONS) where
@@ -170,15 +183,6 @@ module _ (shape : Shape) (told : Bool) (callers spares : ℕ) where
       ends what fits bytes alone holds =
           may_end shape told before v asked what met.session (subst (λ (kind : Kind). FitsCall kind AtEnd what) (sym says.kind) fits) bytes alone holds
 
-      lost : (b : BlockName) → block_at shape t name index ≡ Some b → is_recoverable shape t b ≡ false → LacksRows shape t (live_rows t b.stripe) b
-      lost b named off =
-          let parts = or_none (is_live t b.stripe b.row) (nat_le shape.k (live_rows t b.stripe)) off in
-          record {
-            lost = stands_lost t b.stripe b.row (block_stands shape told c before name index b range met.kept.legal.legal is named) parts.0;
-            counted = refl;
-            few = (let low : nat_le shape.k (live_rows t b.stripe) ≡ false = parts.1 in grind (arith, nat_tests));
-          }
-
       block : (f : File) → file_of t name ≡ Some f → index < block_count shape f → (had : Bool) → is_recoverable shape t (file_block shape f index) ≡ had
           → Follows s v asked (cond had (Ok (file_block shape f index)) (Err (no.Unrecoverable (live_rows t (file_block shape f index).stripe))))
       block f at below true had = tt
@@ -189,7 +193,7 @@ module _ (shape : Shape) (told : Bool) (callers spares : ℕ) where
           ap (λ (o : Option File). option_and_then (λ g. cond (nat_lt index (block_count shape g)) (Some (file_block shape g index)) None) o) at
           ∙ ap (λ (x : Bool). cond x (Some b) None) on in
           ends (act.Unrecoverable (live_rows t b.stripe)) (inl (refl, refl)) refl (λ no_call. absurd (false≢true no_call))
-          (subst (λ (o : Option BlockName). IsSomeAnd o (LacksRows shape t (live_rows t b.stripe))) (sym (says.block shape t ∙ named)) (lost b named off))
+          (subst (λ (o : Option BlockName). IsSomeAnd o (LacksRows shape t (live_rows t b.stripe))) (sym (says.block shape t ∙ named)) (lacks_rows shape told c before name index b range met.kept.legal.legal is named off))
 
       number : (f : File) → file_of t name ≡ Some f → (below : Bool) → nat_lt index (block_count shape f) ≡ below
           → Follows s v asked (cond below (sought_block shape t (file_block shape f index)) (Err (no.NoSuchBlock (block_count shape f))))

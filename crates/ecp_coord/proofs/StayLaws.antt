@@ -12,6 +12,7 @@ use Rattle.ecp_entry.specs.declared.act.Act.TheVariants.{Stored, Lost, Joined, R
 use Rattle.ecp_entry.specs.declared.deed.Deed.{Deed}
 use Rattle.ecp_entry.specs.declared.deed.Deed.TheVariants as deed
 use Rattle.ecp_entry.specs.declared.entry.Entry.{Entry}
+use Rattle.ecp_entry.specs.declared.part.Part.{Part}
 use Rattle.ecp_entry.specs.declared.part.Part.TheVariants as part
 use Rattle.ecp_entry.specs.Entries.{deed_node, dropped_stripe, is_loss, is_number, lost_node}
 use Rattle.ecp_history.specs.declared.table.block_name.BlockName.{BlockName}
@@ -186,7 +187,7 @@ file_stays shape told name f before more legal is =
     onwards shape told (λ h. file_of (table_of shape h) name ≡ Some f)
     (λ h e was next has. ap (λ (t : PlainTable). file_of t name) (one_more shape h e) ∙ file_after shape told h (table_at shape h e.line.point) e name f e.line.act next.holds has) before more legal is
 
-block_at_stays : (shape : Shape) (told : Bool) (name : List ℕ) (index : ℕ) (b : BlockName) (before more : List Entry) → IsLegal shape told (before ++ more)
+pub block_at_stays : (shape : Shape) (told : Bool) (name : List ℕ) (index : ℕ) (b : BlockName) (before more : List Entry) → IsLegal shape told (before ++ more)
     → block_at shape (table_of shape before) name index ≡ Some b → block_at shape (table_of shape (before ++ more)) name index ≡ Some b
 block_at_stays shape told name index b before more legal is = one (file_of (table_of shape before) name) refl is where
   one : (o : Option File) → file_of (table_of shape before) name ≡ o → option_and_then (λ f. cond (nat_lt index (block_count shape f)) (Some (file_block shape f index)) None) o ≡ Some b
@@ -195,13 +196,15 @@ block_at_stays shape told name index b before more legal is = one (file_of (tabl
   one (Some f) found h =
       ap (λ (o : Option File). option_and_then (λ g. cond (nat_lt index (block_count shape g)) (Some (file_block shape g index)) None) o) (file_stays shape told name f before more legal found) ∙ h
 
-pub block_stays : (shape : Shape) (told : Bool) (asked : Deed) (b : BlockName) (before more : List Entry) → IsLegal shape told (before ++ more)
-    → deed_block shape (table_of shape before) part.End (Some asked) ≡ Some b → deed_block shape (table_of shape (before ++ more)) part.End (Some asked) ≡ Some b
-block_stays shape told (deed.Put name len) b before more legal is = is
-block_stays shape told (deed.Read name index) b before more legal is = block_at_stays shape told name index b before more legal is
-block_stays shape told (deed.Sum name index) b before more legal is = block_at_stays shape told name index b before more legal is
-block_stays shape told (deed.Cat name) b before more legal is = is
-block_stays shape told (deed.Lose node) b before more legal is = is
-block_stays shape told (deed.Join node) b before more legal is = is
-block_stays shape told (deed.Rebuild from to) b before more legal is = is
-block_stays shape told (deed.Stat name) b before more legal is = is
+pub block_stays : (shape : Shape) (told : Bool) (asked : Deed) (at : Part) (b : BlockName) (before more : List Entry) → IsLegal shape told (before ++ more)
+    → deed_block shape (table_of shape before) at (Some asked) ≡ Some b → deed_block shape (table_of shape (before ++ more)) at (Some asked) ≡ Some b
+block_stays shape told (deed.Put name len) at b before more legal is = is
+block_stays shape told (deed.Read name index) at b before more legal is = block_at_stays shape told name index b before more legal is
+block_stays shape told (deed.Sum name index) at b before more legal is = block_at_stays shape told name index b before more legal is
+block_stays shape told (deed.Cat name) (part.Part zero) b before more legal is = is
+block_stays shape told (deed.Cat name) (part.Part (suc j)) b before more legal is = block_at_stays shape told name j b before more legal is
+block_stays shape told (deed.Cat name) part.End b before more legal is = is
+block_stays shape told (deed.Lose node) at b before more legal is = is
+block_stays shape told (deed.Join node) at b before more legal is = is
+block_stays shape told (deed.Rebuild from to) at b before more legal is = is
+block_stays shape told (deed.Stat name) at b before more legal is = is

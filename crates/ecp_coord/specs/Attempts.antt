@@ -24,6 +24,7 @@ pub record IsOf (c : CatalogState) (stamps : List ℕ) (cyclic : Bool) (history 
 pub record IsFirst (c : CatalogState) (stamps : List ℕ) (m : Making) (history : Log) {N : Type 0} (plan : Plan N) : Type 0 where
   pub made : IsOf c stamps m.cyclic history plan
   pub block : block_of plan ≡ m.block
+  pub part : plan.part ≡ m.part
   pub sizes : (plan.block ≡ c.shape.block) × (plan.slice ≡ m.slice)
   pub numbered : (plan.repair ≡ m.repair) × (plan.attempt ≡ 1)
   pub more : plan.repair + 1 < 2 ^ 64

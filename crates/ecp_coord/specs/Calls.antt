@@ -5,6 +5,7 @@ use Rattle.ecp_shape.specs.declared.shape.Shape.{Shape}
 use Rattle.ecp_entry.specs.declared.act.Act.{Act}
 use Rattle.ecp_entry.specs.declared.deed.Deed.{Deed}
 use Rattle.ecp_entry.specs.declared.entry.Entry.{Entry}
+use Rattle.ecp_entry.specs.declared.part.Part.{Part}
 use Rattle.ecp_entry.specs.declared.part.Part.TheVariants as part
 use Rattle.ecp_entry.specs.Entries.{deed_name}
 use Rattle.ecp_entry.specs.ReadBack.{line_with, entry_with}
@@ -46,20 +47,32 @@ pub record Ends (shape : Shape) (told : Bool) (s : SequencerState) (v : PassStat
 abbrev pub HasOpen : PassState → Type 0
 HasOpen p = (asked : Deed) × IsOpen p asked
 
--- the entry that ends the open call of a pass with this act and these bytes, and speaks of the history at a point
-abbrev pub closing : PassState → Deed → ℕ → Act → List ℕ → Entry
-closing p asked point act bytes = entry_with (line_with p.caller (p.calls - 1) point part.End act) (Some asked) (deed_name (Some asked)) bytes
+-- The entry of this part of the open call of a pass, with this act and these bytes, which speaks of the history at a point. That of the
+-- end, `part.End`, ends the call
+abbrev pub closing : PassState → Deed → Part → ℕ → Act → List ℕ → Entry
+closing p asked at point act bytes = entry_with (line_with p.caller (p.calls - 1) point at act) (Some asked) (deed_name (Some asked)) bytes
 
--- An event that ends the open call of a pass with such an entry, whatever the call asks for, in one place of the hand's room
-pub record EndsBy (shape : Shape) (told : Bool) (s : SequencerState) (v : PassState) (point : ℕ) (act : Act) (bytes : List ℕ) (t : SequencerState) (w : PassState) : Type 0 where
+-- An event that makes such an entry, whatever the call asks for, in one place of the hand's room
+pub record EndsBy (shape : Shape) (told : Bool) (s : SequencerState) (v : PassState) (at : Part) (point : ℕ) (act : Act) (bytes : List ℕ) (t : SequencerState) (w : PassState) : Type 0 where
   pub asked : Deed
   pub is_open : IsOpen v asked
-  pub event : Event shape told s v (closing v asked point act bytes ∷ []) (note (length s.history) (room_noted v.notes - 1) (entering_of v.hand (closing v asked point act bytes)) ∷ []) t w
+  pub event : Event shape told s v (closing v asked at point act bytes ∷ []) (note (length s.history) (room_noted v.notes - 1) (entering_of v.hand (closing v asked at point act bytes)) ∷ []) t w
   pub begins : IsPrefix v.front s.history
   pub calls : w.calls ≡ v.calls
 
--- an event that ends the open call of a pass with this act at its own position, whatever the call asks for
-pub record EndsAny (shape : Shape) (told : Bool) (s : SequencerState) (v : PassState) (act : Act) (t : SequencerState) (w : PassState) : Type 0 where
-  pub asked : Deed
-  pub is_open : IsOpen v asked
-  pub ends : Ends shape told s v asked act t w
+-- an event that makes the entry of this part with this act, at its own position and with no bytes, whatever the call asks for
+abbrev pub EndsAny : Shape → Bool → SequencerState → PassState → Part → Act → SequencerState → PassState → Type 0
+EndsAny shape told s v at act t w = EndsBy shape told s v at (length s.history) act [] t w
+
+-- the entry of part j of the open call of a pass at a position, of which it speaks. It has no bytes
+abbrev pub part_of : PassState → Deed → ℕ → ℕ → Act → Entry
+part_of p asked j position act = closing p asked (part.Part j) position act []
+
+-- An event that enters part j of the open call of a pass with this act, as `Ends` says of an end. Where the hand has room for
+-- an entry more, the call is open still
+pub record Enters (shape : Shape) (told : Bool) (s : SequencerState) (v : PassState) (asked : Deed) (j : ℕ) (act : Act) (t : SequencerState) (w : PassState) : Type 0 where
+  pub event : Event shape told s v (part_of v asked j (length s.history) act ∷ [])
+      (note (length s.history) (room_noted v.notes - 1) (entering_of v.hand (part_of v asked j (length s.history) act)) ∷ []) t w
+  pub begins : IsPrefix v.front s.history
+  pub calls : w.calls ≡ v.calls
+  pub still_open : 2 ≤ room_noted v.notes → IsOpen w asked

@@ -2,6 +2,8 @@ pub mod Calls
 pub mod Losing
 pub mod Joining
 pub mod Stating
+pub mod Opening
+pub mod Closing
 pub mod Bookings
 pub mod Numbers
 pub mod Coords

@@ -1,5 +1,5 @@
 -- What a plan of a pass is, and how it is made, made anew and ended.
-use Rattle.std.specs.Prelude.{◌≡◌, ℕ, ◌+◌, ◌-◌, ◌≤◌, ◌==◌, nat_le, nat_lt, Bool, true, false, not, ◌&&◌, ◌||◌, if◌then◌else◌, ◌⊎◌, List, [], ◌∷◌, ◌++◌, length, map, filter, flat_map, drop, vec_capacity, Option, Some, None, is_none, Result, Ok, Err, All}
+use Rattle.std.specs.Prelude.{◌≡◌, ℕ, suc, ◌+◌, ◌-◌, ◌^◌, ◌<◌, ◌≤◌, ◌==◌, nat_le, nat_lt, Bool, true, false, not, ◌&&◌, ◌||◌, if◌then◌else◌, ◌⊎◌, List, [], ◌∷◌, ◌++◌, length, map, filter, flat_map, drop, vec_capacity, Option, Some, None, is_none, IsSome, MatchOption, Result, Ok, Err, All}
 use Rattle.std.specs.List.{list_any, position_from}
 use Rattle.std.specs.Option.{option_map_or}
 use Rattle.ecp_shape.specs.declared.limits.TheConstants.{MAX_ATTEMPTS, MAX_NAME}
@@ -10,16 +10,18 @@ use Rattle.ecp_entry.specs.declared.act.Act.TheVariants as act
 use Rattle.ecp_entry.specs.declared.deed.Deed.{Deed}
 use Rattle.ecp_entry.specs.declared.deed.Deed.TheVariants as deed
 use Rattle.ecp_entry.specs.declared.entry.Entry.{Entry}
+use Rattle.ecp_entry.specs.declared.part.Part.{Part}
 use Rattle.ecp_entry.specs.declared.part.Part.TheVariants as part
-use Rattle.ecp_entry.specs.Entries.{deed_name, loss_of}
+use Rattle.ecp_entry.specs.Entries.{loss_of, part_numbers}
 use Rattle.ecp_entry.specs.Items.{sized}
-use Rattle.ecp_entry.specs.ReadBack.{line_with, entry_with}
 use Rattle.ecp_entry.specs.Told.{history_of, items_by}
 use Rattle.ecp_history.specs.declared.table.block_name.BlockName.{BlockName}
 use Rattle.ecp_history.specs.declared.table.file.File.{File}
+use Rattle.ecp_history.specs.Calls.{OfBlock, kind_of, place_of}
 use Rattle.ecp_history.specs.Follows.{is_voiding}
 use Rattle.ecp_history.specs.Fronts.{told_table}
-use Rattle.ecp_history.specs.Named.{deed_block}
+use Rattle.ecp_history.specs.Named.{block_at, deed_block}
+use Rattle.ecp_history.specs.Parts.{PartFits}
 use Rattle.ecp_history.specs.Recoverable.{IsRecoverable}
 use Rattle.ecp_history.specs.table.Steps.{table_of}
 use Rattle.ecp_history.specs.table.Tables.{PlainTable, block_count, file_block, file_of, inc_of, is_live, is_live_on, live_rows, rows_of}
@@ -30,7 +32,8 @@ use Rattle.ecp_plan.specs.Plans.{IsSound}
 use Rattle.ecp_plan.specs.declared.plan.Plan.{Plan}
 use Rattle.ecp_plan.specs.declared.voids.Voids.{Voids}
 use Rattle.ecp_sequencer.specs.declared.limits.TheConstants.{ROOM}
-use Rattle.ecp_sequencer.specs.Notes.{note, entering_of, kind_of, says_of}
+use Rattle.ecp_sequencer.specs.Notes.{note, entering_of, says_of}
+use Rattle.ecp_sequencer.specs.Notes as noting
 use Rattle.ecp_sequencer.specs.Facts.{facts_of, entries_noted, room_noted}
 use Rattle.ecp_sequencer.specs.Passes.{PassState}
 use Rattle.ecp_sequencer.specs.Steps.{EndsWith, Event}
@@ -41,7 +44,7 @@ use Rattle.ecp_coord.specs.declared.no_plan.NoPlan.TheVariants.{NoSuchFile, NoSu
 use Rattle.ecp_coord.specs.declared.replanned.Replanned.{Replanned}
 use Rattle.ecp_coord.specs.declared.replanned.Replanned.TheVariants as replanned
 use Rattle.ecp_coord.specs.declared.replanned.Replanned.TheVariants.{Planned, StillGood, Unsteady}
-use Rattle.ecp_coord.specs.Calls.{EndsAny, IsOpen}
+use Rattle.ecp_coord.specs.Calls.{EndsAny, IsFresh, IsOpen, closing}
 use Rattle.ecp_coord.specs.Coords.{CoordState}
 use Rattle.ecp_coord.specs.Voids.{AreVoids, positions_of}
 
@@ -53,7 +56,7 @@ planned = 2
 abbrev pub plan_says : {N : Type 0} → Plan N → List ℕ
 plan_says plan =
     plan.repair ∷ plan.attempt ∷ plan.stripe ∷ plan.row ∷ plan.lanes ∷ plan.block ∷ plan.slice ∷ plan.point ∷
-    flat_map sized (map (λ h. h.row) plan.hops.items ∷ map (λ h. h.node) plan.hops.items ∷ map (λ h. h.inc) plan.hops.items ∷
+    flat_map sized (part_numbers plan.part ∷ map (λ h. h.row) plan.hops.items ∷ map (λ h. h.node) plan.hops.items ∷ map (λ h. h.inc) plan.hops.items ∷
     map (λ h. h.weight) plan.hops.items ∷ positions_of plan.voids ∷ [])
 
 abbrev pub planning_of : {N : Type 0} → Plan N → List ℕ
@@ -61,25 +64,32 @@ planning_of plan = planned ∷ plan_says plan
 
 -- what a hand with these notes noted of plans since its call began
 abbrev pub plans_noted : Log → List (List ℕ)
-plans_noted notes = map says_of (filter (λ x. kind_of x == planned) (facts_of notes).since)
+plans_noted notes = map says_of (filter (λ x. noting.kind_of x == planned) (facts_of notes).since)
 
--- The plan is the last one that the pass's hand noted, in its open call. It is sound, it makes the block that the call asks for, which could
--- be had at its point, and all entries of the hand stand before that. Each attempt before this one came to nothing by an entry at a position
--- that the plan has. There is room for the attempts that are left and for the entry that ends the call. At its point the row of each helper
--- was live on its node. The block is to be kept nowhere
+-- a part of the open call of a pass is due: what must stand before its entry stands in this front
+abbrev pub IsDue : Shape → PassState → Deed → Part → Log → Type 0
+IsDue shape p asked at front = PartFits shape (history_of front) (closing p asked at 0 act.Data []) at
+
+-- The plan is the last one that the pass's hand noted, in its open call. It is for a part of that call that has a block and is due, which is
+-- the end of a read. It is sound, it makes the block that this part asks for, which could be had at its point, and all entries of the hand
+-- stand before that. Each attempt before this one came to nothing by an entry at a position that the plan has. There is room for the
+-- attempts that are left, for the entry of the part and for the end of the call. At its point the row of each helper was live on its node.
+-- The block is to be kept nowhere
 pub record IsPlanned (shape : Shape) (told : Bool) {N : Type 0} (p : PassState) (plan : Plan N) : Type 0 where
   pub asked : Deed
   pub is_open : IsOpen p asked
   pub last : EndsWith (plans_noted p.notes) (plan_says plan)
   pub sound : IsSound shape told plan
-  pub block : deed_block shape (told_table shape plan.front.items) part.End (Some asked) ≡ Some (record { stripe = plan.stripe; row = plan.row })
+  pub of_block : OfBlock (kind_of (Some asked)) (place_of plan.part)
+  pub due : IsDue shape p asked plan.part plan.front.items
+  pub block : deed_block shape (told_table shape plan.front.items) plan.part (Some asked) ≡ Some (record { stripe = plan.stripe; row = plan.row })
   pub recoverable : IsRecoverable shape (told_table shape plan.front.items) plan.stripe plan.row
   pub point : plan.point ≡ length plan.front.items
   pub own : items_by p.hand plan.front.items ≡ entries_noted p.notes
   pub attempt : plan.attempt ≡ plan.voids.len + 1
   pub most : plan.attempt ≤ MAX_ATTEMPTS
   pub voids : AreVoids shape (λ t x. is_voiding t plan.stripe x) p.hand plan.front.items plan.voids
-  pub room : MAX_ATTEMPTS + 1 ≤ room_noted p.notes + plan.attempt
+  pub room : MAX_ATTEMPTS + 2 ≤ room_noted p.notes + plan.attempt
   pub fits : shape.k ≤ vec_capacity plan.hops
   pub live : All (λ h. is_live_on (told_table shape plan.front.items) plan.stripe h.row h.node ≡ true) plan.hops.items
   pub onto : plan.to ≡ None
@@ -127,24 +137,51 @@ sought_in shape t f index =
 abbrev pub sought : Shape → PlainTable → List ℕ → ℕ → Result BlockName NoPlan
 sought shape t name index = option_map_or (λ f. sought_in shape t f index) (file_of t name) (Err NoSuchFile)
 
--- the name that is asked for has 1 to 64 bytes
-abbrev pub HasName : Ask → Type 0
-HasName (ask.Read name index) = (1 ≤ length name.now) × (length name.now ≤ MAX_NAME)
-HasName (ask.Sum name index) = (1 ≤ length name.now) × (length name.now ≤ MAX_NAME)
-
--- what a call asks for that asks for this plan
-abbrev pub asked_by : Ask → Deed
-asked_by (ask.Read name index) = deed.Read name.now index
-asked_by (ask.Sum name index) = deed.Sum name.now index
-
 -- a call asks for this block: for its bytes, or for their digest
 abbrev pub AsksBlock : Deed → List ℕ → ℕ → Type 0
 AsksBlock asked name index = (asked ≡ deed.Read name index) ⊎ (asked ≡ deed.Sum name index)
 
--- by a table: the block that is asked for, or why there is none
-abbrev pub sought_by : Shape → PlainTable → Ask → Result BlockName NoPlan
-sought_by shape t (ask.Read name index) = sought shape t name.now index
-sought_by shape t (ask.Sum name index) = sought shape t name.now index
+-- the open call of a pass asks for this block, and nothing was noted of it yet
+pub record AsksWhole (p : PassState) (name : List ℕ) (index : ℕ) : Type 0 where
+  pub asked : Deed
+  pub asks : AsksBlock asked name index
+  pub fresh : IsFresh p asked
+
+-- the open call of a pass is a `cat` of this file, which has such a block in the pass's front, and the part for that block is due
+pub record AsksPart (shape : Shape) (p : PassState) (name : List ℕ) (index : ℕ) : Type 0 where
+  pub is_open : IsOpen p (deed.Cat name)
+  pub due : IsDue shape p (deed.Cat name) (part.Part (suc index)) p.front
+  pub there : IsSome (block_at shape (told_table shape p.front) name index)
+  pub numbered : suc index < 2 ^ 32
+
+-- the open call of a pass asks for this block at its end, or at the part for it
+abbrev pub IsSought : Shape → PassState → Part → List ℕ → ℕ → Type 0
+IsSought shape p at name index = ((at ≡ part.End) × AsksWhole p name index) ⊎ ((at ≡ part.Part (suc index)) × AsksPart shape p name index)
+
+-- The open call of a pass asks for this plan: nothing was noted yet of a read or a sum of this block, whose name has 1 to 64 bytes; or the
+-- part of a `cat` that this block is for is due
+abbrev pub CanPlan : Shape → PassState → Ask → Type 0
+CanPlan shape p (ask.Read name index) = (1 ≤ length name.now) × (length name.now ≤ MAX_NAME) × IsFresh p (deed.Read name.now index)
+CanPlan shape p (ask.Sum name index) = (1 ≤ length name.now) × (length name.now ≤ MAX_NAME) × IsFresh p (deed.Sum name.now index)
+CanPlan shape p (ask.CatPart index) = (name : List ℕ) × AsksPart shape p name index
+
+-- the part of the call that the plan is for
+abbrev pub part_for : Ask → Part
+part_for (ask.Read name index) = part.End
+part_for (ask.Sum name index) = part.End
+part_for (ask.CatPart index) = part.Part (suc index)
+
+-- the number of the block in its file
+abbrev pub index_of : Ask → ℕ
+index_of (ask.Read name index) = index
+index_of (ask.Sum name index) = index
+index_of (ask.CatPart index) = index
+
+-- a block of the file of this name is asked for: of a `cat` it is the one that the call asks for
+abbrev pub IsOfFile : PassState → Ask → List ℕ → Type 0
+IsOfFile p (ask.Read name index) file = file ≡ name.now
+IsOfFile p (ask.Sum name index) file = file ≡ name.now
+IsOfFile p (ask.CatPart index) file = IsOpen p (deed.Cat file)
 
 -- the act that says in the history why a call has no plan. Want of memory says nothing, and the others come of rebuilds, whose parts they end
 abbrev pub refusal_of : NoPlan → Option Act
@@ -178,6 +215,12 @@ pub record Plans (shape : Shape) (told : Bool) (s : CoordState) (v : PassState) 
   pub numbered : (plan.repair ≡ s.repairs) × (plan.attempt ≡ 1)
   pub sliced : plan.slice ≡ s.slice
   pub rest : t ≡ record s { sequence = t.sequence; stamps = t.stamps; repairs = s.repairs + 1 }
+  pub calls : w.calls ≡ v.calls
+
+-- There is no plan. Where there is an act that says why, it ends this part of the open call; else nothing is noted
+pub record RefusesPlan (shape : Shape) (told : Bool) (s : CoordState) (v : PassState) (at : Part) (said : Option Act) (t : CoordState) (w : PassState) : Type 0 where
+  pub event : MatchOption said (Event shape told s.sequence v [] [] t.sequence w) (λ what. EndsAny shape told s.sequence v at what t.sequence w)
+  pub rest : t ≡ record s { sequence = t.sequence }
   pub calls : w.calls ≡ v.calls
 
 -- the block of a plan
@@ -219,14 +262,14 @@ pub record Replans (shape : Shape) (told : Bool) (s : CoordState) (v : PassState
   pub rest : t ≡ record s { sequence = t.sequence; stamps = t.stamps }
   pub calls : w.calls ≡ v.calls
 
--- the open call of a pass ends with this act, whatever it asks for
-pub record EndsOpen (shape : Shape) (told : Bool) (s : CoordState) (v : PassState) (what : Act) (t : CoordState) (w : PassState) : Type 0 where
-  pub ends : EndsAny shape told s.sequence v what t.sequence w
+-- this part of the open call of a pass ends with this act, whatever it asks for
+pub record EndsOpen (shape : Shape) (told : Bool) (s : CoordState) (v : PassState) (at : Part) (what : Act) (t : CoordState) (w : PassState) : Type 0 where
+  pub ends : EndsAny shape told s.sequence v at what t.sequence w
   pub rest : t ≡ record s { sequence = t.sequence }
 
--- there is no further attempt: the call ends with the reason, and the plan has the position that voided its last attempt
+-- there is no further attempt: the plan's part ends with the reason, and the plan has the position that voided its last attempt
 pub record GivesUp (shape : Shape) (told : Bool) (s : CoordState) (v : PassState) {N : Type 0} (old new : Plan N) (what : Act) (t : CoordState) (w : PassState) : Type 0 where
-  pub ends : EndsOpen shape told s v what t w
+  pub ends : EndsOpen shape told s v old.part what t w
   pub moves : Moves (history_of s.sequence.history) old new
   pub same : new ≡ record old { voids = new.voids }
 
@@ -245,15 +288,15 @@ Did shape told s v old new t w (replanned.Unrecoverable live) = GivesUp shape to
 Did shape told s v old new t w (replanned.TargetDown node) = ⊥
 Did shape told s v old new t w Unsteady = GivesUp shape told s v old new (act.Unsteady new.voids.at) t w
 
--- the entry that answers the open call with the bytes of a block, which it had at a point
-abbrev pub answer_of : PassState → Deed → ℕ → List ℕ → Entry
-answer_of p asked point bytes = entry_with (line_with p.caller (p.calls - 1) point part.End act.Data) (Some asked) (deed_name (Some asked)) bytes
+-- the entry that answers a part of the open call with the bytes of a block, which it had at a point
+abbrev pub answer_of : PassState → Deed → Part → ℕ → List ℕ → Entry
+answer_of p asked at point bytes = closing p asked at point act.Data bytes
 
--- the open call of a pass ends with the bytes of its block, which speak of the plan's point
+-- the plan's part of the open call of a pass ends with the bytes of its block, which speak of the plan's point
 pub record Finishes (shape : Shape) (told : Bool) (s : CoordState) (v : PassState) {N : Type 0} (plan : Plan N) (bytes : List ℕ) (t : CoordState) (w : PassState) : Type 0 where
   pub asked : Deed
   pub is_open : IsOpen v asked
-  pub event : Event shape told s.sequence v (answer_of v asked plan.point bytes ∷ [])
-      (note (length s.sequence.history) (room_noted v.notes - 1) (entering_of v.hand (answer_of v asked plan.point bytes)) ∷ []) t.sequence w
+  pub event : Event shape told s.sequence v (answer_of v asked plan.part plan.point bytes ∷ [])
+      (note (length s.sequence.history) (room_noted v.notes - 1) (entering_of v.hand (answer_of v asked plan.part plan.point bytes)) ∷ []) t.sequence w
   pub rest : t ≡ record s { sequence = t.sequence }
   pub calls : w.calls ≡ v.calls

@@ -5,4 +5,6 @@ pub enum Ask<'a> {
     Read { name: &'a str, index: u32 },
     /// The digest of those bytes.
     Sum { name: &'a str, index: u32 },
+    /// The bytes of a block of the file of a `cat`, by its number in the file: part `index + 1` of the call.
+    CatPart { index: u32 },
 }

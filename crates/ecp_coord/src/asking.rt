@@ -1,7 +1,8 @@
 //! The event that plans how the block is had that a call asks for.
-ghost use Rattle.std.specs.Prelude.{◌≡◌, ◌≤◌, Bool, IfErr, IfOk, List, MatchOption, [], length, ⊤};
+ghost use Rattle.std.specs.Prelude.{◌≡◌, ◌≤◌, Bool, IfErr, IfOk, List, MatchOption, ℕ, [], length, ⊤};
 ghost use Rattle.ecp_shape.specs.declared.limits.TheConstants.{MAX_ROWS};
 ghost use Rattle.ecp_shape.specs.declared.shape.Shape.{Shape};
+ghost use Rattle.ecp_entry.specs.declared.deed.Deed.{Deed};
 ghost use Rattle.ecp_entry.specs.declared.entry.Entry.{Entry};
 ghost use Rattle.ecp_entry.specs.Told.{history_of};
 ghost use Rattle.ecp_history.specs.Fronts.{told_table};
@@ -11,31 +12,31 @@ ghost use Rattle.ecp_history.specs.table.Tables.{live_rows};
 ghost use Rattle.ecp_catalog.specs.Outline.{IsOutline};
 ghost use Rattle.ecp_sequencer.specs.Sequencers.{Agrees};
 ghost use Rattle.ecp_sequencer.specs.Steps.{Event};
-ghost use Rattle.ecp_coord.specs.Calls.{Ends, IsFresh, IsOpen, ended};
-ghost use Rattle.ecp_coord.specs.Refusals.{Refuses};
-ghost use Rattle.ecp_coord.specs.Plans.{Answers, AsksBlock, HasName, Plans, asked_by, is_recoverable, refusal_of, sought, sought_block, sought_by};
+ghost use Rattle.ecp_coord.specs.Calls.{EndsAny, HasOpen, IsOpen, closing};
+ghost use Rattle.ecp_coord.specs.Plans.{Answers, CanPlan, IsOfFile, IsSought, Plans, RefusesPlan, index_of, is_recoverable, part_for, refusal_of, sought, sought_block};
 
 use crate::coord::Coord;
-use crate::ending::end_call;
+use crate::giving_up::end_with;
 use crate::planning::{Making, first_attempt};
 use crate::{Ask, NoMemory, NoPlan, Pass};
 use ecp_book::{Book, Names};
 use ecp_catalog::Catalog;
-use ecp_entry::{Deed, Name};
+use ecp_entry::{Deed, Name, Part};
 use ecp_history::BlockName;
 use ecp_plan::Plan;
 use ecp_sequencer::Sequencer;
 use std::alloc::Global;
 
 impl<N: Names> Coord<N> {
-    /// Plans how the block is had that the pass's open call asks for, of which nothing was noted yet: attempt 1 of a new
-    /// repair. The name has 1 to 64 bytes.
+    /// Plans how the block is had that the pass's open call asks for: attempt 1 of a new repair. Of a read or a sum nothing
+    /// was noted yet, and the name has 1 to 64 bytes. Of a `cat` the parts before this one have their data, and its file has
+    /// such a block.
     ///
     /// Where the block is live the plan is direct: its own row is the one helper. Else k live rows help, those whose nodes
-    /// helped longest ago. A refusal ends the call: [`NoPlan::NoSuchFile`] where no file has the name,
-    /// [`NoPlan::NoSuchBlock`] where the file has too few blocks, and [`NoPlan::Unrecoverable`] where the block is lost and
-    /// fewer than k rows of its stripe are live. Want of memory leaves the call open. Room for later attempts is taken
-    /// here.
+    /// helped longest ago. A refusal ends the call, or the part of a `cat`: [`NoPlan::NoSuchFile`] where no file has the
+    /// name, [`NoPlan::NoSuchBlock`] where the file has too few blocks, and [`NoPlan::Unrecoverable`] where the block is lost
+    /// and fewer than k rows of its stripe are live; of a part of a `cat` only the last comes. Want of memory leaves the call
+    /// open. Room for later attempts, and for the end of the call, is taken here.
     pub fn plan(
         &mut self,
         alloc: Global,
@@ -43,52 +44,55 @@ impl<N: Names> Coord<N> {
         pass: &mut Pass<N>,
         ask: Ask<'_>,
     ) -> Result<Plan<N>, NoPlan>
-        requires named { HasName ask }
-        requires fresh { IsFresh pass.old (asked_by ask) }
+        requires { CanPlan N.shape pass.old ask }
         ensures ok { IfOk result (λ plan. Plans N.shape N.told self.old pass.old plan self.new pass.new) }
-        ensures err { IfErr result (λ why. Refuses N.shape N.told self.old pass.old (asked_by ask.entry) (refusal_of why) self.new pass.new) }
-        ensures answer { Answers (sought_by N.shape (told_table N.shape self.old.sequence.history) ask.entry) result }
+        ensures part { IfOk result (λ plan. plan.part ≡ part_for ask.entry) }
+        ensures err { IfErr result (λ why. RefusesPlan N.shape N.told self.old pass.old (part_for ask.entry) (refusal_of why) self.new pass.new) }
+        ensures answer { (file : List ℕ) → IsOfFile pass.old ask.entry file →
+            Answers (sought N.shape (told_table N.shape self.old.sequence.history) file (index_of ask.entry)) result }
     {
         match ask {
-            Ask::Read { name, index } => {
+            Ask::Read { name, index } | Ask::Sum { name, index } => {
                 let name = Name::new(name);
-                let deed = Deed::Read { name, index };
-                self.plan_block(alloc, book, pass, deed, name, index)
+                self.plan_block(alloc, book, pass, Part::End, &name, index)
             }
-            Ask::Sum { name, index } => {
-                let name = Name::new(name);
-                let deed = Deed::Sum { name, index };
-                self.plan_block(alloc, book, pass, deed, name, index)
+            Ask::CatPart { index } => {
+                let deed = pass.deed();
+                let Some(Deed::Cat { name }) = &deed else {
+                    return Err(NoPlan::NoSuchFile);
+                };
+                self.plan_block(alloc, book, pass, Part::Part(index + 1), name, index)
             }
         }
     }
 
-    // Plans how this block of a file is had, for which the deed asks.
+    // Plans how this block of a file is had, for a part of the pass's open call.
     fn plan_block(
         &mut self,
         alloc: Global,
         book: &Book<N>,
         pass: &mut Pass<N>,
-        deed: Deed,
-        name: Name,
+        part: Part,
+        name: &Name,
         index: u32,
     ) -> Result<Plan<N>, NoPlan>
-        requires asks { AsksBlock deed name index }
-        requires fresh { IsFresh pass.old deed }
+        requires { IsSought N.shape pass.old part name.now index }
         ensures ok { IfOk result (λ plan. Plans N.shape N.told self.old pass.old plan self.new pass.new) }
-        ensures err { IfErr result (λ why. Refuses N.shape N.told self.old pass.old deed (refusal_of why) self.new pass.new) }
-        ensures answer { Answers (sought N.shape (told_table N.shape self.old.sequence.history) name index) result }
+        ensures part { IfOk result (λ plan. plan.part ≡ part) }
+        ensures err { IfErr result (λ why. RefusesPlan N.shape N.told self.old pass.old part (refusal_of why) self.new pass.new) }
+        ensures answer { Answers (sought N.shape (told_table N.shape self.old.sequence.history) name.now index) result }
     {
         self.sequencer.meet(book, pass);
-        let block = match seek(&self.catalog, &name, index) {
+        let block = match seek(&self.catalog, name, index) {
             Ok(block) => block,
             Err(why) => {
-                refuse(&mut self.sequencer, book, pass, deed, why);
+                refuse(&mut self.sequencer, book, pass, part, why);
                 return Err(why);
             }
         };
         let making = Making {
             repair: self.repairs,
+            part,
             block,
             slice: self.slice,
             cyclic: self.cyclic,
@@ -157,22 +161,26 @@ pub(crate) fn live_count<N: Names>(catalog: &Catalog<N>, stripe: u32) -> u32
     catalog.live_rows(stripe).as_slice().len() as u32
 }
 
-// Ends the open call with the reason why it has no plan. Want of memory leaves it open.
+// Ends a part of the open call with the reason why it has no plan. Want of memory leaves it open.
 fn refuse<N: Names>(
     sequencer: &mut Sequencer<N>,
     book: &Book<N>,
     pass: &mut Pass<N>,
-    deed: Deed,
+    part: Part,
     why: NoPlan,
 )
     requires agree { Agrees sequencer.old pass.old }
-    requires open { IsOpen pass.old deed }
-    requires follows { MatchOption (refusal_of why) ⊤ (λ what. MayFollow N.shape N.told (history_of sequencer.old.history) (ended pass.old deed (length sequencer.old.history) what)) }
-    ensures event { MatchOption (refusal_of why) (Event N.shape N.told sequencer.old pass.old [] [] sequencer.new pass.new) (λ what. Ends N.shape N.told sequencer.old pass.old deed what sequencer.new pass.new) }
+    requires has_open { HasOpen pass.old }
+    requires follows { (asked : Deed) → IsOpen pass.old asked → MatchOption (refusal_of why) ⊤ (λ what.
+        MayFollow N.shape N.told (history_of sequencer.old.history) (closing pass.old asked part (length sequencer.old.history) what [])) }
+    ensures event { MatchOption (refusal_of why) (Event N.shape N.told sequencer.old pass.old [] [] sequencer.new pass.new) (λ what. EndsAny N.shape N.told sequencer.old pass.old part what sequencer.new pass.new) }
     ensures calls { pass.new.calls ≡ pass.old.calls }
 {
     match why.act() {
-        Some(act) => end_call(sequencer, book, pass, deed, act),
+        Some(act) => {
+            let position = sequencer.len();
+            end_with(sequencer, book, pass, part, position, act, &[]);
+        }
         None => sequencer.renew(book, pass),
     }
 }

@@ -1,4 +1,4 @@
-//! The event that ends a call with the bytes of its block.
+//! The event that ends a part of a call with the bytes of its block.
 ghost use Rattle.std.specs.Prelude.{◌≡◌};
 ghost use Rattle.ecp_history.specs.Fronts.{IsBlockIn};
 ghost use Rattle.ecp_coord.specs.Plans.{Finishes, IsPlanned};
@@ -11,8 +11,9 @@ use ecp_entry::Act;
 use ecp_plan::Plan;
 
 impl<N: Names> Coord<N> {
-    /// Ends the pass's open call with the bytes of the block that its plan makes, as of the plan's point: they are the
-    /// block's in the table of the plan's front, whatever came after. Takes no memory, and copies no byte.
+    /// Ends the plan's part of the pass's open call with the bytes of the block that the plan makes, as of its point: they are
+    /// the block's in the table of the plan's front, whatever came after. The end of a read or a sum ends the call; after a
+    /// part of a `cat` it is open still. Takes no memory, and copies no byte.
     pub fn finish(&mut self, book: &Book<N>, pass: &mut Pass<N>, plan: &mut Plan<N>, bytes: &[u8])
         requires planned { IsPlanned N.shape N.told pass.old plan.old }
         requires bytes { IsBlockIn N.shape N.told plan.old.front.items plan.old.stripe plan.old.row bytes.now }
@@ -25,6 +26,7 @@ impl<N: Names> Coord<N> {
             &mut self.sequencer,
             book,
             pass,
+            plan.part,
             plan.point,
             Act::Data,
             bytes,

@@ -10,15 +10,18 @@
 //!
 //! The layer above may rely on what each event says of the pass (`specs/Calls.antt`, and `Event` and `Called` of
 //! `ecp_sequencer`), on its answer by the table of the history before it (`specs/Losing.antt`, `specs/Joining.antt`,
-//! `specs/Stating.antt`), and on what `settle` and `close` teach at the end. Room is taken by `new` and `begin` alone.
+//! `specs/Stating.antt`, `specs/Opening.antt`), and on what `settle` and `close` teach at the end. A call that is read part
+//! by part ends by the parts that stand in its pass's front (`specs/Closing.antt`). Room is taken by `new` and `begin` alone.
 #![tactic(auto)]
 
 mod ask;
 mod asking;
 mod beginning;
+mod call_closing;
 mod closing;
 mod coord;
 mod ending;
+mod entering;
 mod finishing;
 mod giving_up;
 mod helping;
@@ -27,6 +30,8 @@ mod losing;
 mod no_places;
 mod no_plan;
 mod node_act;
+mod opened;
+mod opening;
 mod places;
 mod planning;
 mod published;
@@ -48,6 +53,7 @@ pub use ecp_store::NoMemory;
 pub use no_places::NoPlaces;
 pub use no_plan::NoPlan;
 pub use node_act::NodeAct;
+pub use opened::Opened;
 pub use published::Published;
 pub use renewed::Renewed;
 pub use replanned::Replanned;

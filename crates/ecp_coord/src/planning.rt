@@ -13,7 +13,7 @@ use crate::helping::help;
 use crate::{NoMemory, Pass};
 use ecp_book::{Book, Entered, Names, Tag};
 use ecp_catalog::{Catalog, Stamps};
-use ecp_history::BlockName;
+use ecp_history::{BlockName, Part};
 use ecp_plan::{Hop, Plan, Voids};
 use ecp_sequencer::Sequencer;
 use std::alloc::Global;
@@ -34,6 +34,7 @@ impl<'a, N: Names> Entered for Planning<'a, N> {
 #[derive(Clone, Copy)]
 pub(crate) struct Making {
     pub(crate) repair: u64,
+    pub(crate) part: Part,
     pub(crate) block: BlockName,
     pub(crate) slice: u32,
     pub(crate) cyclic: bool,
@@ -88,6 +89,7 @@ fn first_plan<N: Names>(
     Ok(Plan {
         repair: making.repair,
         attempt: 1,
+        part: making.part,
         stripe: making.block.stripe,
         row: making.block.row,
         lanes: lanes(making.cyclic, &hops),

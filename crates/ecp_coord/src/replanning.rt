@@ -36,7 +36,7 @@ impl<N: Names> Coord<N> {
     /// It stands, and is left as it is, where since its point no node of a helper was lost and no block of a helper given
     /// up. Else the first position of such an entry is kept with it, and the answer is [`Replanned::Unrecoverable`] where
     /// the block is lost and fewer than k rows of its stripe are live, [`Replanned::Unsteady`] where 16 positions are kept,
-    /// and else [`Replanned::Planned`]. The first two end the call. Takes no memory.
+    /// and else [`Replanned::Planned`]. The first two end the plan's part of the call. Takes no memory.
     pub fn replan(&mut self, book: &Book<N>, pass: &mut Pass<N>, plan: &mut Plan<N>) -> Replanned
         requires { IsPlanned N.shape N.told pass.old plan.old }
         ensures answer { result ≡ found_by_replanning N.shape (history_of self.old.sequence.history) plan.old }
@@ -64,7 +64,15 @@ impl<N: Names> Coord<N> {
             return found;
         };
         let position = self.sequencer.len();
-        end_with(&mut self.sequencer, book, pass, position, act, &[]);
+        end_with(
+            &mut self.sequencer,
+            book,
+            pass,
+            plan.part,
+            position,
+            act,
+            &[],
+        );
         found
     }
 }

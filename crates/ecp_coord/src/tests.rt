@@ -4,6 +4,7 @@ ghost use Rattle.ecp_sequencer.specs.Passes.{first_passes};
 ghost use Rattle.ecp_coord.specs.Coords.{at_start, AreNodeLogs};
 
 mod calls;
+mod cats;
 mod plans;
 mod puts;
 mod reads;
@@ -14,7 +15,7 @@ mod tries;
 mod unsteady;
 mod worked;
 
-use super::*;
+use crate::{Coord, NoMemory, Pass};
 use ecp_book::{Blank, Book, Keeper, Names};
 use ecp_shape::Shape;
 use std::alloc::Global;

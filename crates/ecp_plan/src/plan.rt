@@ -3,6 +3,7 @@ use crate::order::slices;
 use crate::target::Target;
 use crate::voids::Voids;
 use ecp_book::{Names, Tag};
+use ecp_history::Part;
 
 /// How one block is made: which rows help, with which weights, and along how many lanes its slices pass.
 ///
@@ -13,6 +14,8 @@ pub struct Plan<N: Names> {
     pub repair: u64,
     /// The number of the attempt of this repair, counted from 1.
     pub attempt: u32,
+    /// The part of its call that it makes the block for.
+    pub part: Part,
     /// The stripe of the block.
     pub stripe: u32,
     /// The row that is made.

@@ -43,8 +43,8 @@ module _ (shape : Shape) (told : Bool) {N : Type 0} where
       let notes : w.notes ≡ v.notes = s.steps.noted ∙ append-nil v.notes in
       record {
         goes = record { steps = inr ([], s.steps); call = (s.calls, ap (λ (ns : Log). (facts_of ns).call) notes) };
-        planned = subst (IsPlanned shape told w) (sym s.same) (planned_by shape told v w old notes s.steps.hand s.calls planned);
-        later = subst (IsLater old) (sym s.same) (record { repair = refl; stripe = refl; row = refl; point = omega arith });
+        planned = subst (IsPlanned shape told w) (sym s.same) (planned_by shape told v w old notes s.steps.caller s.steps.hand s.calls planned);
+        later = subst (IsLater old) (sym s.same) (record { repair = refl; part = refl; stripe = refl; row = refl; point = omega arith });
       }
 
   pub moves_on : (before : Log) (v w : PassState) (old new : Plan N) → MovesOn shape told before v old new w → Advances shape told v old new w
@@ -53,6 +53,7 @@ module _ (shape : Shape) (told : Bool) {N : Type 0} where
     planned = m.planned;
     later = record {
       repair = ap (λ (p : Plan N). p.repair) m.same;
+      part = ap (λ (p : Plan N). p.part) m.same;
       stripe = ap (λ (p : Plan N). p.stripe) m.same;
       row = ap (λ (p : Plan N). p.row) m.same;
       point = omega (arith, moves_past before old new m.moves, m.planned.point, ap length m.of_now);
@@ -88,12 +89,12 @@ module _ (shape : Shape) (told : Bool) {N : Type 0} where
           ends = record {
             asked = e.asked;
             is_open = e.is_open;
-            begins = e.ends.begins;
+            begins = e.begins;
             more = _;
-            steps = e.ends.event.steps;
-            front = e.ends.event.front ∙ e.ends.event.history;
-            legal = e.ends.event.legal;
-            calls = e.ends.calls;
+            steps = e.event.steps;
+            front = e.event.front ∙ e.event.history;
+            legal = e.event.legal;
+            calls = e.calls;
           };
           moves = p.moves;
           same = p.same;

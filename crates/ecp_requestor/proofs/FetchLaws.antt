@@ -8,7 +8,7 @@ use Rattle.ecp_entry.specs.declared.act.Act.{Act}
 use Rattle.ecp_entry.specs.declared.act.Act.TheVariants as act
 use Rattle.ecp_entry.specs.declared.deed.Deed.{Deed}
 use Rattle.ecp_entry.specs.declared.entry.Entry.{Entry}
-use Rattle.ecp_entry.specs.declared.part.Part.TheVariants as part
+use Rattle.ecp_entry.specs.declared.part.Part.{Part}
 use Rattle.ecp_entry.specs.Entries.{deed_name}
 use Rattle.ecp_entry.specs.Items.{item}
 use Rattle.ecp_entry.specs.ReadBack.{line_with, entry_with}
@@ -17,7 +17,7 @@ use Rattle.ecp_sequencer.specs.Facts.{room_noted}
 use Rattle.ecp_sequencer.specs.Passes.{PassState}
 use Rattle.ecp_sequencer.specs.Steps.{Steps, call_with}
 use Rattle.ecp_sequencer.proofs.StepLaws.{steps_both}
-use Rattle.ecp_coord.specs.Calls.{IsOpen, ended}
+use Rattle.ecp_coord.specs.Calls.{IsOpen, closing}
 use Rattle.ecp_requestor.specs.Crews.{SameCall}
 use Rattle.ecp_requestor.specs.Fetching.{GoesOn, Advances, Ended, Fetches}
 use Rattle.ecp_requestor.specs.declared.fetched.Fetched.{Fetched}
@@ -35,15 +35,15 @@ goes_both u v w a b = record {
   call = (b.call.0 ∙ a.call.0, b.call.1 ∙ a.call.1);
 }
 
--- ---- the end of a call
+-- ---- the end of a part
 
--- the entry that ends a call of this caller
-abbrev entry_of : ℕ → ℕ → Deed → ℕ → Act → Entry
-entry_of caller calls asked position what = entry_with (line_with caller (calls - 1) position part.End what) (Some asked) (deed_name (Some asked)) []
+-- the entry of a part of a call of this caller
+abbrev entry_of : ℕ → ℕ → Deed → Part → ℕ → Act → Entry
+entry_of caller calls asked at position what = entry_with (line_with caller (calls - 1) position at what) (Some asked) (deed_name (Some asked)) []
 
-same_entry : (u v : PassState) (asked : Deed) (position : ℕ) (what : Act) → v.caller ≡ u.caller → v.calls ≡ u.calls → ended v asked position what ≡ ended u asked position what
-same_entry u v asked position what caller calls =
-    ap (λ (n : ℕ). entry_of n v.calls asked position what) caller ∙ ap (λ (n : ℕ). entry_of u.caller n asked position what) calls
+same_entry : (u v : PassState) (asked : Deed) (at : Part) (position : ℕ) (what : Act) → v.caller ≡ u.caller → v.calls ≡ u.calls → closing v asked at position what [] ≡ closing u asked at position what []
+same_entry u v asked at position what caller calls =
+    ap (λ (n : ℕ). entry_of n v.calls asked at position what) caller ∙ ap (λ (n : ℕ). entry_of u.caller n asked at position what) calls
 
 same_open : (u v : PassState) (asked : Deed) → 1 ≤ room_noted u.notes → SameCall u v → IsOpen v asked → IsOpen u asked
 same_open u v asked room same is = record {
@@ -53,10 +53,10 @@ same_open u v asked room same is = record {
 }
 
 module _ (shape : Shape) (told : Bool) where
-  ended_past : (what : Act) (u v w : PassState) (more : Log) → 1 ≤ room_noted u.notes → SameCall u v → Steps u [] more v → Ended shape told v what w → Ended shape told u what w
-  ended_past what u v w more room same s (before, e) =
-      let by : Entry = ended v e.asked (length before) what in
-      let is : by ≡ ended u e.asked (length before) what = same_entry u v e.asked (length before) what s.caller same.0 in (
+  ended_past : (at : Part) (what : Act) (u v w : PassState) (more : Log) → 1 ≤ room_noted u.notes → SameCall u v → Steps u [] more v → Ended shape told v at what w → Ended shape told u at what w
+  ended_past at what u v w more room same s (before, e) =
+      let by : Entry = closing v e.asked at (length before) what [] in
+      let is : by ≡ closing u e.asked at (length before) what [] = same_entry u v e.asked at (length before) what s.caller same.0 in (
         before,
         record {
           asked = e.asked;
@@ -70,10 +70,10 @@ module _ (shape : Shape) (told : Bool) where
         },
       )
 
-  pub ended_after : (what : Act) (u v w : PassState) → 1 ≤ room_noted u.notes → GoesOn u v → Ended shape told v what w → Ended shape told u what w
-  ended_after what u v w room g e = elim g.steps [
-    | inl same ↦ subst (λ (x : PassState). Ended shape told x what w) same e
-    | inr steps ↦ ended_past what u v w steps.0 room g.call steps.1 e
+  pub ended_after : (at : Part) (what : Act) (u v w : PassState) → 1 ≤ room_noted u.notes → GoesOn u v → Ended shape told v at what w → Ended shape told u at what w
+  ended_after at what u v w room g e = elim g.steps [
+    | inl same ↦ subst (λ (x : PassState). Ended shape told x at what w) same e
+    | inr steps ↦ ended_past at what u v w steps.0 room g.call steps.1 e
   ]
 
   module _ {N : Type 0} where
@@ -83,6 +83,7 @@ module _ (shape : Shape) (told : Bool) where
       planned = b.planned;
       later = record {
         repair = b.later.repair ∙ a.later.repair;
+        part = b.later.part ∙ a.later.part;
         stripe = b.later.stripe ∙ a.later.stripe;
         row = b.later.row ∙ a.later.row;
         point = omega (arith, a.later.point, b.later.point);
@@ -91,9 +92,11 @@ module _ (shape : Shape) (told : Bool) where
 
     pub fetches_after : (u v w : PassState) (p q : Plan N) (f : Fetched N) → 1 ≤ room_noted u.notes → Advances shape told u p q v → Fetches shape told v q w f → Fetches shape told u p w f
     fetches_after u v w p q (Whole plan block) room a f = (advances_both u v w p q plan a f.0, f.1)
-    fetches_after u v w p q (Unrecoverable live) room a f = ended_after (act.Unrecoverable live) u v w room a.goes f
+    fetches_after u v w p q (Unrecoverable live) room a f =
+        ended_after p.part (act.Unrecoverable live) u v w room a.goes (subst (λ (r : Part). Ended shape told v r (act.Unrecoverable live) w) a.later.part f)
     fetches_after u v w p q (TargetDown node) room a f = f
-    fetches_after u v w p q (Unsteady voids) room a f = ended_after (act.Unsteady voids.at) u v w room a.goes f
+    fetches_after u v w p q (Unsteady voids) room a f =
+        ended_after p.part (act.Unsteady voids.at) u v w room a.goes (subst (λ (r : Part). Ended shape told v r (act.Unsteady voids.at) w) a.later.part f)
 
 pub on_err : {T E : Type 0} (P : Type 0) (r : Result T E) → P → OnErr r P
 on_err P (Ok x) p = tt

@@ -6,6 +6,7 @@ use Rattle.ecp_book.specs.Logs.{Log}
 use Rattle.ecp_entry.specs.declared.act.Act.{Act}
 use Rattle.ecp_entry.specs.declared.act.Act.TheVariants as act
 use Rattle.ecp_entry.specs.declared.deed.Deed.{Deed}
+use Rattle.ecp_entry.specs.declared.part.Part.{Part}
 use Rattle.ecp_entry.specs.Items.{item}
 use Rattle.ecp_entry.specs.Told.{history_of}
 use Rattle.ecp_history.specs.Legal.{TellsLegal}
@@ -13,7 +14,7 @@ use Rattle.ecp_plan.specs.declared.plan.Plan.{Plan}
 use Rattle.ecp_sequencer.specs.Facts.{facts_of}
 use Rattle.ecp_sequencer.specs.Passes.{PassState}
 use Rattle.ecp_sequencer.specs.Steps.{Steps}
-use Rattle.ecp_coord.specs.Calls.{IsOpen, ended}
+use Rattle.ecp_coord.specs.Calls.{IsOpen, closing}
 use Rattle.ecp_coord.specs.Plans.{IsPlanned, Moves, found_by_replanning}
 use Rattle.ecp_coord.specs.declared.replanned.Replanned.{Replanned}
 use Rattle.ecp_coord.specs.declared.replanned.Replanned.TheVariants.{Planned, StillGood, Unrecoverable, TargetDown, Unsteady}
@@ -22,15 +23,15 @@ use Rattle.ecp_coord.specs.declared.replanned.Replanned.TheVariants.{Planned, St
 abbrev pub SameCall : PassState → PassState → Type 0
 SameCall v w = (w.calls ≡ v.calls) × ((facts_of w.notes).call ≡ (facts_of v.notes).call)
 
--- The open call of a pass ended with this act: the history, which the pass's front begins and which is that long, grew by the one entry
--- that says so, and the pass's new front is the whole of it
-pub record EndedAt (shape : Shape) (told : Bool) (before : Log) (v : PassState) (what : Act) (w : PassState) : Type 0 where
+-- This part of the open call of a pass ended with this act: the history, which the pass's front begins and which is that long, grew by the
+-- one entry that says so, and the pass's new front is the whole of it
+pub record EndedAt (shape : Shape) (told : Bool) (before : Log) (v : PassState) (at : Part) (what : Act) (w : PassState) : Type 0 where
   pub asked : Deed
   pub is_open : IsOpen v asked
   pub begins : IsPrefix v.front before
   pub more : Log
-  pub steps : Steps v (ended v asked (length before) what ∷ []) more w
-  pub front : w.front ≡ before ++ item v.hand (ended v asked (length before) what) ∷ []
+  pub steps : Steps v (closing v asked at (length before) what [] ∷ []) more w
+  pub front : w.front ≡ before ++ item v.hand (closing v asked at (length before) what []) ∷ []
   pub legal : TellsLegal shape told w.front
   pub calls : w.calls ≡ v.calls
 
@@ -52,9 +53,9 @@ pub record StaysOn (before : Log) (v : PassState) {N : Type 0} (old new : Plan N
   pub calls : w.calls ≡ v.calls
   pub same : new ≡ old
 
--- there is no further attempt: the call ended with the reason, and the plan has the position that voided its last attempt
+-- there is no further attempt: the plan's part ended with the reason, and the plan has the position that voided its last attempt
 pub record EndsOn (shape : Shape) (told : Bool) (before : Log) (v : PassState) {N : Type 0} (old new : Plan N) (what : Act) (w : PassState) : Type 0 where
-  pub ends : EndedAt shape told before v what w
+  pub ends : EndedAt shape told before v old.part what w
   pub moves : Moves (history_of before) old new
   pub same : new ≡ record old { voids = new.voids }
 

@@ -4,6 +4,7 @@ use Rattle.ecp_shape.specs.declared.shape.Shape.{Shape}
 use Rattle.ecp_book.specs.Logs.{Log}
 use Rattle.ecp_entry.specs.declared.act.Act.{Act}
 use Rattle.ecp_entry.specs.declared.act.Act.TheVariants as act
+use Rattle.ecp_entry.specs.declared.part.Part.{Part}
 use Rattle.ecp_plan.specs.declared.plan.Plan.{Plan}
 use Rattle.ecp_sequencer.specs.Passes.{PassState}
 use Rattle.ecp_sequencer.specs.Steps.{Steps}
@@ -19,9 +20,10 @@ pub record GoesOn (v w : PassState) : Type 0 where
   pub steps : (w ≡ v) ⊎ ((more : Log) × Steps v [] more w)
   pub call : SameCall v w
 
--- the plan makes the same block of the same repair, by a history that is no shorter
+-- the plan makes the same block of the same repair, for the same part of the call, by a history that is no shorter
 pub record IsLater {N : Type 0} (old new : Plan N) : Type 0 where
   pub repair : new.repair ≡ old.repair
+  pub part : new.part ≡ old.part
   pub stripe : new.stripe ≡ old.stripe
   pub row : new.row ≡ old.row
   pub point : old.point ≤ new.point
@@ -39,19 +41,19 @@ pub record IsBlockOf (shape : Shape) (told : Bool) {N : Type 0} (plan : Plan N) 
   pub front : b.front ≡ plan.front.items
   pub whole : IsAssembled shape told b
 
--- the open call of a pass ended with this act, at the end of a history that the pass's front begins
-abbrev pub Ended : Shape → Bool → PassState → Act → PassState → Type 0
-Ended shape told v what w = (before : Log) × EndedAt shape told before v what w
+-- this part of the open call of a pass ended with this act, at the end of a history that the pass's front begins
+abbrev pub Ended : Shape → Bool → PassState → Part → Act → PassState → Type 0
+Ended shape told v at what w = (before : Log) × EndedAt shape told before v at what w
 
--- What a fetch with this plan hands out: the block by the plan that it has then, or why the call ended. A target that is down is an answer
+-- What a fetch with this plan hands out: the block by the plan that it has then, or why the plan's part ended. A target that is down is an answer
 -- to rebuilds alone
 abbrev pub Fetches : {N : Type 0} → Shape → Bool → PassState → Plan N → PassState → Fetched N → Type 0
 Fetches shape told v old w (Whole plan block) = Advances shape told v old plan w × IsBlockOf shape told plan block
-Fetches shape told v old w (Unrecoverable live) = Ended shape told v (act.Unrecoverable live) w
+Fetches shape told v old w (Unrecoverable live) = Ended shape told v old.part (act.Unrecoverable live) w
 Fetches shape told v old w (TargetDown node) = ⊥
-Fetches shape told v old w (Unsteady voids) = Ended shape told v (act.Unsteady voids.at) w
+Fetches shape told v old w (Unsteady voids) = Ended shape told v old.part (act.Unsteady voids.at) w
 
--- what a look at an attempt says: it goes on, or another one does; why the call ended; or no memory was found for another one
+-- what a look at an attempt says: it goes on, or another one does; why the plan's part ended; or no memory was found for another one
 abbrev pub Looks : {N : Type 0} → Shape → Bool → PassState → Plan N → Plan N → PassState → Result (Option (Fetched N)) NoMemory → Type 0
 Looks shape told v old new w (Ok None) = Advances shape told v old new w
 Looks shape told v old new w (Ok (Some fetched)) = Fetches shape told v old w fetched

@@ -1,12 +1,13 @@
 //! The call by which a block is read.
-ghost use Rattle.std.specs.Prelude.{◌≡◌, ◌≤◌, [], false, length, IfOk, IfErr, OnErr};
+ghost use Rattle.std.specs.Prelude.{◌≡◌, ◌≤◌, [], false, length, IfOk, IfErr, OnErr, None, Some};
 ghost use Rattle.ecp_shape.specs.declared.limits.TheConstants.{MAX_NAME};
 ghost use Rattle.ecp_entry.specs.declared.deed.Deed.TheVariants.{Read};
-ghost use Rattle.ecp_coord.specs.Calls.{IsFresh};
-ghost use Rattle.ecp_coord.specs.Plans.{HasName, IsPlanned, asked_by};
+ghost use Rattle.ecp_entry.specs.declared.deed.Deed.{Deed};
+ghost use Rattle.ecp_coord.specs.Calls.{IsOpen};
+ghost use Rattle.ecp_coord.specs.Plans.{CanPlan, IsPlanned, part_for, refusal_of};
 ghost use Rattle.ecp_requestor.specs.Fetching.{Fetches, GoesOn, IsBlockOf};
 ghost use Rattle.ecp_cluster.specs.Answered.{Answered, FoundNone};
-ghost use Rattle.ecp_cluster.specs.Concluded.{Concludes, EndsUnplanned, GoesBy, IsPlannedFrom, ReadBy, WentOn};
+ghost use Rattle.ecp_cluster.specs.Concluded.{Answers, EndsUnplanned, GoesBy, IsPlannedFrom, ReadBy, WentOn};
 ghost use Rattle.ecp_cluster.specs.Summed.{no_digest};
 
 use crate::answer::Answer;
@@ -49,27 +50,38 @@ impl<N: Names, S: Store + Drop, G: Gate> Service<N, S, G> {
         self.read_on(rt, pass, Ask::Read { name, index })
     }
 
-    /// What becomes of a call that began and asks for a block: the answer by the block's bytes.
+    /// What becomes of a part of a call that asks for a block, which is the end of a read or a sum: the answer by the block's
+    /// bytes.
     pub(crate) fn read_on<R: Wait>(
         &self,
         rt: &R,
         pass: &mut Pass<N>,
         ask: Ask<'_>,
     ) -> Result<Answer, NoMemory>
-        requires named { HasName ask }
-        requires fresh { IsFresh pass.old (asked_by ask) }
-        ensures ok { IfOk result (λ a. Concludes N.shape N.told pass.old (asked_by ask.entry) a.act a.bytes pass.new) }
+        requires { CanPlan N.shape pass.old ask }
+        ensures ok { (asked : Deed) → IsOpen pass.old asked → IfOk result (λ a. Answers N.shape N.told pass.old asked (part_for ask.entry) a.act a.bytes pass.new) }
         ensures digest { IfOk result (λ a. (a.by_digest ≡ false) × (a.digest ≡ no_digest)) }
         ensures err { OnErr result (WentOn pass.old pass.new) }
     {
         match self.plan_read(rt, pass, ask) {
             Ok(plan) => self.read_by(rt, pass, plan),
-            Err(NoPlan::NoSuchFile) => Ok(self.only(Act::NoSuchFile)),
-            Err(NoPlan::NoSuchBlock(count)) => Ok(self.only(Act::NoSuchBlock(count))),
-            Err(NoPlan::Unrecoverable(live)) => Ok(self.only(Act::Unrecoverable(live))),
-            Err(
-                NoPlan::AlreadyLive | NoPlan::Clash(_) | NoPlan::TargetDown(_) | NoPlan::NoMemory,
-            ) => Err(NoMemory),
+            Err(why) => self.unplanned(why),
+        }
+    }
+
+    // The answer of a part that has no plan: the act that says why, or want of memory.
+    fn unplanned(&self, why: NoPlan) -> Result<Answer, NoMemory>
+        ensures ok { IfOk result (λ a. (refusal_of why ≡ Some a.act) × (a.bytes ≡ [])) }
+        ensures digest { IfOk result (λ a. (a.by_digest ≡ false) × (a.digest ≡ no_digest)) }
+        ensures err { OnErr result (refusal_of why ≡ None) }
+    {
+        match why {
+            NoPlan::NoSuchFile => Ok(self.only(Act::NoSuchFile)),
+            NoPlan::NoSuchBlock(count) => Ok(self.only(Act::NoSuchBlock(count))),
+            NoPlan::Unrecoverable(live) => Ok(self.only(Act::Unrecoverable(live))),
+            NoPlan::AlreadyLive | NoPlan::Clash(_) | NoPlan::TargetDown(_) | NoPlan::NoMemory => {
+                Err(NoMemory)
+            }
         }
     }
 
@@ -80,15 +92,15 @@ impl<N: Names, S: Store + Drop, G: Gate> Service<N, S, G> {
         pass: &mut Pass<N>,
         ask: Ask<'_>,
     ) -> Result<Plan<N>, NoPlan>
-        requires named { HasName ask }
-        requires fresh { IsFresh pass.old (asked_by ask) }
-        ensures ok { IfOk result (λ plan. IsPlannedFrom N.shape N.told pass.old (asked_by ask.entry) plan pass.new) }
-        ensures err { IfErr result (λ why. EndsUnplanned N.shape N.told pass.old (asked_by ask.entry) why pass.new) }
+        requires { CanPlan N.shape pass.old ask }
+        ensures ok { (asked : Deed) → IsOpen pass.old asked → IfOk result (λ plan. IsPlannedFrom N.shape N.told pass.old asked plan pass.new) }
+        ensures part { IfOk result (λ plan. plan.part ≡ part_for ask.entry) }
+        ensures err { (asked : Deed) → IsOpen pass.old asked → IfErr result (λ why. EndsUnplanned N.shape N.told pass.old asked (part_for ask.entry) why pass.new) }
     {
         self.coord.lock(rt).plan(self.alloc, &self.book, pass, ask)
     }
 
-    // What becomes of a call that has this plan.
+    // What becomes of the part of a call that has this plan.
     fn read_by<R: Wait>(
         &self,
         rt: &R,
@@ -136,7 +148,7 @@ impl<N: Names, S: Store + Drop, G: Gate> Service<N, S, G> {
         unreachable!()
     }
 
-    // The call ends with the bytes of its block, under the coordinator's lock.
+    // The plan's part ends with the bytes of its block, under the coordinator's lock.
     fn give<R: Wait>(
         &self,
         rt: &R,

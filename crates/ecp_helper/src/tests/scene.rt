@@ -8,6 +8,7 @@ ghost use Rattle.ecp_slice.specs.OneFile.{three_rows, file_item, IsReceiptOf};
 use super::desk::{Desk, Moved};
 use crate::Gate;
 use ecp_book::{Blank, Book, Entered, Keeper, Names, Tag};
+use ecp_history::Part;
 use ecp_node::{Node, Receipt};
 use ecp_plan::{Hop, Plan, Voids};
 use ecp_slice::{Cancel, SliceMsg};
@@ -249,6 +250,7 @@ fn plan_for<N: Names>(hops: Vec<Hop<N>>, front: Tag<N>) -> Plan<N>
     Plan {
         repair: 0,
         attempt: 1,
+        part: Part::End,
         stripe: 0,
         row: 0,
         lanes: 1,

@@ -7,6 +7,7 @@ ghost use Rattle.ecp_requestor.specs.OneBlock.{file_front, first_block, IsOfFirs
 use crate::errand::Errand;
 use crate::{Accepted, Assembly};
 use ecp_book::{Blank, Book, Entered, Names, Tag};
+use ecp_history::Part;
 use ecp_node::{Node, Receipt};
 use ecp_plan::{Hop, Plan, Voids};
 use ecp_slice::{Cancel, SliceMsg};
@@ -82,6 +83,7 @@ impl<N: Names, S: Store + Drop> KeptRow<N, S> {
         Ok(Plan {
             repair,
             attempt,
+            part: Part::End,
             stripe: 0,
             row: 0,
             lanes: 1,

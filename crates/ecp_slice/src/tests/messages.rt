@@ -7,6 +7,7 @@ ghost use Rattle.ecp_slice.specs.OneFile.{three_rows, file_item, IsReceiptOf};
 
 use crate::{Cancel, Next, SliceMsg};
 use ecp_book::{Blank, Book, Entered, Keeper, Names, Tag};
+use ecp_history::Part;
 use ecp_node::{Node, Receipt};
 use ecp_plan::{Hop, Plan, Voids};
 use ecp_store::{MemStore, Store};
@@ -63,6 +64,7 @@ fn plan_for<N: Names>(row: u8, hops: Vec<Hop<N>>, block: u32, slice: u32, front:
     Plan {
         repair: 0,
         attempt: 1,
+        part: Part::End,
         stripe: 0,
         row,
         lanes: 1,

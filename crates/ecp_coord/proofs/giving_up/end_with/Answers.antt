@@ -18,7 +18,7 @@ enter-requires-clause-own g c =
     let v : PassState = c.args.pass.now in
     let asked : Deed = c.requires.has_open.0 in
     let is : IsOpen v asked = c.requires.has_open.1 in
-    let same = same_entry v asked c.caller.result c.calls.result c.args.point c.args.act c.deed.result c.args.bytes.now c.caller.ensures.caller c.calls.ensures
+    let same = same_entry v asked c.caller.result c.calls.result c.args.part c.args.point c.args.act c.deed.result c.args.bytes.now c.caller.ensures.caller c.calls.ensures
     (asks_is v.notes c.deed.result (v.calls - 1) asked c.deed.ensures is.call) in
     subst (λ (e : Entry). IsOwn v.caller v.notes e) same (record { by = refl; of_call = is.call })
 
@@ -27,7 +27,7 @@ enter-requires-clause-follows g c =
     let v : PassState = c.args.pass.now in
     let asked : Deed = c.requires.has_open.0 in
     let is : IsOpen v asked = c.requires.has_open.1 in
-    let same = same_entry v asked c.caller.result c.calls.result c.args.point c.args.act c.deed.result c.args.bytes.now c.caller.ensures.caller c.calls.ensures
+    let same = same_entry v asked c.caller.result c.calls.result c.args.part c.args.point c.args.act c.deed.result c.args.bytes.now c.caller.ensures.caller c.calls.ensures
     (asks_is v.notes c.deed.result (v.calls - 1) asked c.deed.ensures is.call) in
     subst (λ (e : Entry). MayFollow g.N.Names.shape g.N.Names.told (history_of c.args.sequencer.now.history) e) same (c.requires.follows asked is)
 
@@ -40,7 +40,7 @@ returns g c =
     let s : SequencerState = c.args.sequencer.now in
     let asked : Deed = c.requires.has_open.0 in
     let is : IsOpen v asked = c.requires.has_open.1 in
-    let same = same_entry v asked c.caller.result c.calls.result c.args.point c.args.act c.deed.result c.args.bytes.now c.caller.ensures.caller c.calls.ensures
+    let same = same_entry v asked c.caller.result c.calls.result c.args.part c.args.point c.args.act c.deed.result c.args.bytes.now c.caller.ensures.caller c.calls.ensures
     (asks_is v.notes c.deed.result (v.calls - 1) asked c.deed.ensures is.call) in
     record {
       asked = asked;

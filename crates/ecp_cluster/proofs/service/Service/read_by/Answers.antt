@@ -1,7 +1,9 @@
 use Rattle.std.proofs.Common.{subst}
 use Rattle.ecp_entry.specs.declared.act.Act.TheVariants as act
+use Rattle.ecp_entry.specs.declared.part.Part.{Part}
 use Rattle.ecp_requestor.specs.Fetching.{Fetches}
 use Rattle.ecp_requestor.specs.declared.fetched.Fetched.{Fetched}
+use Rattle.ecp_cluster.specs.Concluded.{Answers}
 use Rattle.ecp_cluster.proofs.CallLaws.{on_err}
 use Rattle.ecp_cluster.proofs.ReadLaws.{ended_by, goes_on_from, went_from}
 use Rattle.ecp_cluster.proofs.service.Service.read_by.Goals as goal
@@ -13,7 +15,8 @@ returns-in_err-plan-clause-err g c =
 pub returns-in-Whole-clause-ok : goal.returns-in-Whole-clause-ok
 returns-in-Whole-clause-ok g c = λ v asked from.
     let fetched = subst (λ (f : Fetched g.row.N.Denot). Fetches g.N.Names.shape g.N.Names.told c.args.pass.now c.args.plan c.fetch_by.new.pass f) c.in-Whole.is c.in_ok-plan.ensures.ok in
-    c.give.ensures.read v asked (goes_on_from g.N.Names.shape g.N.Names.told v c.args.pass.now asked c.args.plan from c.in-Whole.plan c.fetch_by.new.pass fetched.0)
+    subst (λ (r : Part). Answers g.N.Names.shape g.N.Names.told v asked r c.give.result.act c.give.result.bytes c.give.new.pass) fetched.0.later.part
+    (c.give.ensures.read v asked (goes_on_from g.N.Names.shape g.N.Names.told v c.args.pass.now asked c.args.plan from c.in-Whole.plan c.fetch_by.new.pass fetched.0))
 
 pub returns-in-Unrecoverable-clause-ok : goal.returns-in-Unrecoverable-clause-ok
 returns-in-Unrecoverable-clause-ok g c = λ v asked from.

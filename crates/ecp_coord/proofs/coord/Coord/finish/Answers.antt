@@ -1,4 +1,4 @@
-use Rattle.std.proofs.Common.{◌≡◌, ◌-◌, Bool, refl, sym, ◌∙◌, subst}
+use Rattle.std.proofs.Common.{◌≡◌, ◌-◌, Bool, Some, refl, sym, ◌∙◌, subst}
 use mathlib.Core.List.{IsPrefix}
 use Rattle.ecp_shape.specs.declared.shape.Shape.{Shape}
 use Rattle.ecp_entry.specs.declared.act.Act.TheVariants as act
@@ -12,7 +12,9 @@ use Rattle.ecp_coord.specs.Calls.{EndsBy, HasOpen, IsOpen, closing}
 use Rattle.ecp_coord.specs.Coords.{CoordParts, CoordState, heard, parts_of}
 use Rattle.ecp_coord.specs.Plans.{Finishes}
 use Rattle.ecp_coord.proofs.AttemptLaws.{state}
-use Rattle.ecp_coord.proofs.CallLaws.{ended_kept, planned_free}
+use Rattle.ecp_history.specs.Calls.{OfBlock, kind_of, place_of}
+use Rattle.ecp_coord.proofs.CallLaws.{answered_kept, planned_free}
+use Rattle.ecp_coord.proofs.EndWithLaws.{one_asked}
 use Rattle.ecp_coord.proofs.CoverLaws.{covered_free}
 use Rattle.ecp_coord.proofs.FinishLaws.{data_goes}
 use Rattle.ecp_coord.proofs.FollowLaws.{IsMet}
@@ -42,8 +44,8 @@ end_with-requires-clause-follows g c =
       own = c.meet.ensures.own;
       in_range = c.meet.ensures.in_range;
     } in
-    subst (λ (x : SequencerState). (asked : Deed) → IsOpen c.meet.new.pass asked → MayFollow shape told (history_of x.history) (closing c.meet.new.pass asked plan.point act.Data c.args.bytes.now)) (sym same)
-    (subst (λ (p : PassState). (asked : Deed) → IsOpen p asked → MayFollow shape told (history_of s.history) (closing p asked plan.point act.Data c.args.bytes.now)) (sym c.meet.ensures.pass)
+    subst (λ (x : SequencerState). (asked : Deed) → IsOpen c.meet.new.pass asked → MayFollow shape told (history_of x.history) (closing c.meet.new.pass asked plan.part plan.point act.Data c.args.bytes.now)) (sym same)
+    (subst (λ (p : PassState). (asked : Deed) → IsOpen p asked → MayFollow shape told (history_of s.history) (closing p asked plan.part plan.point act.Data c.args.bytes.now)) (sym c.meet.ensures.pass)
     (data_goes shape told g.N.Names.callers g.N.Names.spare_hands s v met plan c.requires.planned begins c.self.invariant.idle c.args.bytes.now c.requires.bytes))
 
 pub invariant_of-self : goal.invariant_of-self
@@ -54,9 +56,9 @@ invariant_of-self g c =
     let v : PassState = c.args.pass.now in
     let p : CoordParts = parts_of c.self.inside.catalog c.self.inside.hands c.self.inside.slice c.self.inside.nodes.items c.self.inside.stripes c.self.inside.promises.items in
     let same : c.meet_front.new.self ≡ s = c.meet_front.ensures.same ∙ c.meet.ensures.same in
-    let by : EndsBy shape told s v c.args.plan.now.point act.Data c.args.bytes.now c.end_with.new.sequencer c.end_with.new.pass =
-    subst (λ (x : SequencerState). EndsBy shape told x v c.args.plan.now.point act.Data c.args.bytes.now c.end_with.new.sequencer c.end_with.new.pass) same
-    (subst (λ (q : PassState). EndsBy shape told c.meet_front.new.self q c.args.plan.now.point act.Data c.args.bytes.now c.end_with.new.sequencer c.end_with.new.pass) c.meet.ensures.pass c.end_with.ensures) in
+    let by : EndsBy shape told s v c.args.plan.now.part c.args.plan.now.point act.Data c.args.bytes.now c.end_with.new.sequencer c.end_with.new.pass =
+    subst (λ (x : SequencerState). EndsBy shape told x v c.args.plan.now.part c.args.plan.now.point act.Data c.args.bytes.now c.end_with.new.sequencer c.end_with.new.pass) same
+    (subst (λ (q : PassState). EndsBy shape told c.meet_front.new.self q c.args.plan.now.part c.args.plan.now.point act.Data c.args.bytes.now c.end_with.new.sequencer c.end_with.new.pass) c.meet.ensures.pass c.end_with.ensures) in
     let met : IsMet shape told g.N.Names.callers g.N.Names.spare_hands s v = record {
       agree = c.meet.ensures.agree;
       kept = c.meet.ensures.kept;
@@ -64,9 +66,10 @@ invariant_of-self g c =
       own = c.meet.ensures.own;
       in_range = c.meet.ensures.in_range;
     } in
-    ended_kept shape told g.N.Names.callers g.N.Names.spare_hands s c.end_with.new.sequencer v c.end_with.new.pass p c.self.invariant met
-    (closing v by.asked c.args.plan.now.point act.Data c.args.bytes.now) (room_noted v.notes - 1) refl refl (record { stores = refl; drops = refl; spends = λ m. refl })
-    (covered_free shape s v (closing v by.asked c.args.plan.now.point act.Data c.args.bytes.now) (planned_free shape told v c.args.plan.now c.requires.planned)) by.event
+    answered_kept shape told g.N.Names.callers g.N.Names.spare_hands s c.end_with.new.sequencer v c.end_with.new.pass p c.self.invariant met by.asked (place_of c.args.plan.now.part)
+    (closing v by.asked c.args.plan.now.part c.args.plan.now.point act.Data c.args.bytes.now) (room_noted v.notes - 1) by.is_open
+    (subst (λ (d : Deed). OfBlock (kind_of (Some d)) (place_of c.args.plan.now.part)) (one_asked v c.requires.planned.asked by.asked c.requires.planned.is_open by.is_open) c.requires.planned.of_block) refl (record { stores = refl; drops = refl; spends = λ m. refl })
+    (covered_free shape s v (closing v by.asked c.args.plan.now.part c.args.plan.now.point act.Data c.args.bytes.now) (planned_free shape told v c.args.plan.now c.requires.planned)) by.event
 
 pub returns-clause-done : goal.returns-clause-done
 returns-clause-done g c =
@@ -75,9 +78,9 @@ returns-clause-done g c =
     let s : SequencerState = c.self.inside.sequencer in
     let v : PassState = c.args.pass.now in
     let same : c.meet_front.new.self ≡ s = c.meet_front.ensures.same ∙ c.meet.ensures.same in
-    let by : EndsBy shape told s v c.args.plan.now.point act.Data c.args.bytes.now c.end_with.new.sequencer c.end_with.new.pass =
-    subst (λ (x : SequencerState). EndsBy shape told x v c.args.plan.now.point act.Data c.args.bytes.now c.end_with.new.sequencer c.end_with.new.pass) same
-    (subst (λ (q : PassState). EndsBy shape told c.meet_front.new.self q c.args.plan.now.point act.Data c.args.bytes.now c.end_with.new.sequencer c.end_with.new.pass) c.meet.ensures.pass c.end_with.ensures) in
+    let by : EndsBy shape told s v c.args.plan.now.part c.args.plan.now.point act.Data c.args.bytes.now c.end_with.new.sequencer c.end_with.new.pass =
+    subst (λ (x : SequencerState). EndsBy shape told x v c.args.plan.now.part c.args.plan.now.point act.Data c.args.bytes.now c.end_with.new.sequencer c.end_with.new.pass) same
+    (subst (λ (q : PassState). EndsBy shape told c.meet_front.new.self q c.args.plan.now.part c.args.plan.now.point act.Data c.args.bytes.now c.end_with.new.sequencer c.end_with.new.pass) c.meet.ensures.pass c.end_with.ensures) in
     let new : CoordState = state c.end_with.new.sequencer c.self.inside.stamps c.self.inside.repairs c.self.inside.stripes c.self.inside.slice c.self.inside.cyclic (heard c.self.inside.nodes.items) in
     subst (λ (x : CoordState). Finishes shape told x v c.args.plan.now c.args.bytes.now new c.end_with.new.pass) c.self.view_is
     (record { asked = by.asked; is_open = by.is_open; event = by.event; rest = refl; calls = by.calls })

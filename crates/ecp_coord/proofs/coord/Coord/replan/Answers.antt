@@ -4,6 +4,7 @@ use mathlib.Core.List.{IsPrefix}
 use Rattle.ecp_shape.specs.declared.limits.TheConstants.{MAX_NODES}
 use Rattle.ecp_shape.specs.declared.shape.Shape.{Shape}
 use Rattle.ecp_entry.specs.Told.{history_of}
+use Rattle.ecp_history.specs.Calls.{place_of}
 use Rattle.ecp_history.specs.table.Steps.{table_of}
 use Rattle.ecp_plan.specs.declared.hop.Hop.{Hop}
 use Rattle.ecp_plan.specs.declared.plan.Plan.{Plan}
@@ -25,7 +26,7 @@ use Rattle.ecp_coord.proofs.KeepLaws.{with_catalog}
 use Rattle.ecp_coord.proofs.NextLaws.{ends_met, noted_met}
 use Rattle.ecp_coord.proofs.PlanningLaws.{event_met}
 use Rattle.ecp_coord.proofs.RefuseLaws.{given_up_kept}
-use Rattle.ecp_coord.proofs.ReplanLaws.{end_stores, few_attempts, first_is, given_up_now, goes_met, goes_on, next_can, next_met, next_stamped, reads, replans_now, stands_now, with_plan_front, with_voids}
+use Rattle.ecp_coord.proofs.ReplanLaws.{end_stores, few_attempts, first_is, given_up_now, goes_met, goes_on, next_can, next_met, next_stamped, replans_now, stands_now, with_plan_front, with_voids}
 use Rattle.ecp_coord.proofs.coord.Coord.replan.Goals as goal
 
 pub renew-requires : goal.renew-requires
@@ -198,8 +199,8 @@ invariant_of-self-in_default-act g c =
     let event = noted_met shape told s c.meet_front.new.self c.next_attempt.new.sequencer v c.meet.new.pass c.next_attempt.new.pass same (planning_of c.next_attempt.new.plan) c.meet.ensures.pass
     c.next_attempt.ensures.event in
     subst (λ (d : CatalogState). IsCoord shape told callers spares c.next_attempt.new.sequencer (with_catalog p d)) (sym c.next_attempt.ensures.kept)
-    (planned_kept shape told callers spares s c.next_attempt.new.sequencer v c.next_attempt.new.pass p is met planned.asked (room_noted v.notes - 1) c.next_attempt.new.plan planned.is_open
-    (reads shape told callers spares s v p is met plan planned begins) event)
+    (planned_kept shape told callers spares s c.next_attempt.new.sequencer v c.next_attempt.new.pass p is met planned.asked (place_of plan.part) (room_noted v.notes - 1) c.next_attempt.new.plan planned.is_open
+    planned.of_block event)
 
 pub returns-in_default-act-clause-answer : goal.returns-in_default-act-clause-answer
 returns-in_default-act-clause-answer g c =
@@ -303,9 +304,9 @@ invariant_of-self-2 g c =
     let met : IsMet shape told callers spares s v = record { agree = c.meet.ensures.agree; kept = c.meet.ensures.kept; session = c.meet.ensures.session; own = c.meet.ensures.own; in_range = c.meet.ensures.in_range } in
     let same : c.meet_front.new.self ≡ s = c.meet_front.ensures.same ∙ c.meet.ensures.same in
     let says : end_of c.push.new.voids c.find-found.result ≡ Some c.in-Some-act.act = sym c.act.ensures ∙ c.in-Some-act.is in
-    let ends : EndsAny shape told s v c.in-Some-act.act c.end_with.new.sequencer c.end_with.new.pass =
-    ends_met shape told s c.meet_front.new.self c.end_with.new.sequencer v c.meet.new.pass c.end_with.new.pass same c.len-position.result c.in-Some-act.act c.meet.ensures.pass c.len-position.ensures c.end_with.ensures in
-    given_up_kept shape told callers spares s c.end_with.new.sequencer v c.end_with.new.pass p is met (planned_free shape told v c.args.plan.now c.requires) c.push.new.voids c.find-found.result c.in-Some-act.act says ends
+    let ends : EndsAny shape told s v c.args.plan.now.part c.in-Some-act.act c.end_with.new.sequencer c.end_with.new.pass =
+    ends_met shape told s c.meet_front.new.self c.end_with.new.sequencer v c.meet.new.pass c.end_with.new.pass same c.args.plan.now.part c.len-position.result c.in-Some-act.act c.meet.ensures.pass c.len-position.ensures c.end_with.ensures in
+    given_up_kept shape told callers spares s c.end_with.new.sequencer v c.end_with.new.pass p is met (planned_free shape told v c.args.plan.now c.requires) c.requires.asked c.args.plan.now.part c.requires.is_open c.requires.of_block c.push.new.voids c.find-found.result c.in-Some-act.act says ends
 
 pub returns-clause-answer : goal.returns-clause-answer
 returns-clause-answer g c =
@@ -345,7 +346,7 @@ returns-clause-done g c =
     let first : c.first_void.result ≡ first_void plan (history_of s.history) = c.first_void.ensures ∙ first_is shape told callers spares s v p is met plan planned begins in
     let at : first_void plan (history_of s.history) ≡ Some c.in-Some.at = sym first ∙ c.in-Some.is in
     let says : end_of c.push.new.voids c.find-found.result ≡ Some c.in-Some-act.act = sym c.act.ensures ∙ c.in-Some-act.is in
-    let ends : EndsAny shape told s v c.in-Some-act.act c.end_with.new.sequencer c.end_with.new.pass =
-    ends_met shape told s c.meet_front.new.self c.end_with.new.sequencer v c.meet.new.pass c.end_with.new.pass same c.len-position.result c.in-Some-act.act c.meet.ensures.pass c.len-position.ensures c.end_with.ensures in
+    let ends : EndsAny shape told s v c.args.plan.now.part c.in-Some-act.act c.end_with.new.sequencer c.end_with.new.pass =
+    ends_met shape told s c.meet_front.new.self c.end_with.new.sequencer v c.meet.new.pass c.end_with.new.pass same c.args.plan.now.part c.len-position.result c.in-Some-act.act c.meet.ensures.pass c.len-position.ensures c.end_with.ensures in
     subst (λ (x : CoordState). Did shape told x v plan (with_plan_front (with_voids plan c.push.new.voids) c.meet_front.new.front) (state c.end_with.new.sequencer c.self.inside.stamps c.self.inside.repairs c.self.inside.stripes c.self.inside.slice c.self.inside.cyclic (heard c.self.inside.nodes.items)) c.end_with.new.pass c.find-found.result) c.self.view_is
     (given_up_now shape told callers spares s v p is met plan planned begins c.in-Some.at at c.push.new.voids c.push.ensures.len c.push.ensures.kept c.push.ensures.rest c.end_with.new.sequencer c.end_with.new.pass c.self.inside.stamps c.self.inside.repairs c.self.inside.stripes c.self.inside.slice c.self.inside.cyclic (heard c.self.inside.nodes.items) c.meet_front.new.front c.find-found.result c.in-Some-act.act c.meet_front.ensures.front says ends)
