@@ -1,4 +1,5 @@
 pub mod Appending
+pub mod Counting
 pub mod Dividing
 pub mod Gathering
 pub mod Joined

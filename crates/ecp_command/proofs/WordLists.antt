@@ -27,8 +27,8 @@ four_texts (w ∷ v ∷ u ∷ t ∷ s ∷ ws) a b c d low high ea eb ec ed = abs
 pub text_is : (s : String Global) (shown word : List ℕ) (r : Bool) → shown ≡ string_bytes s → r ≡ true → r ≡ pointwise nat_eq shown word → string_bytes s ≡ word
 text_is s shown word r e t h = sym e ∙ same_text shown word (sym t ∙ h)
 
-pub is_run : (ws : List (String Global)) (a : String Global) → 1 ≤ length ws → length ws < 2 → a ≡ get_or ws 0 a → string_bytes a ≡ codes "run" → texts ws ≡ codes "run" ∷ []
-is_run ws a low high e h = one_text ws a low high e ∙ ap (λ (w : List ℕ). w ∷ []) h
+pub is_word : (ws : List (String Global)) (a : String Global) (word : List ℕ) → 1 ≤ length ws → length ws < 2 → a ≡ get_or ws 0 a → string_bytes a ≡ word → texts ws ≡ word ∷ []
+is_word ws a word low high e h = one_text ws a low high e ∙ ap (λ (w : List ℕ). w ∷ []) h
 
 pub is_mend : (ws : List (String Global)) (a b c d : String Global) (k n row : ℕ) → 4 ≤ length ws → length ws < 5 → a ≡ get_or ws 0 a → b ≡ get_or ws 1 b → c ≡ get_or ws 2 c → d ≡ get_or ws 3 d
     → string_bytes a ≡ codes "mend" → string_bytes b ≡ decimal k → string_bytes c ≡ decimal n → string_bytes d ≡ decimal row
@@ -49,5 +49,5 @@ no_row words k n row lk ln lr e other (Mend k' n' row') h =
     let en : n ≡ n' = same_number n n' ln (omega arith) dn in
     let er : row ≡ row' = same_number row row' lr (omega arith) dr in
     other (rw (ek, en, er) rows)
-no_row words k n row lk ln lr e other Check h = h
+no_row words k n row lk ln lr e other Check h = absurd cc
 no_row words k n row lk ln lr e other (Soak seed) h = h

@@ -17,6 +17,6 @@ IsRow k n row = (1 ≤ k) × (k < n) × (n ≤ MAX_ROWS) × (row < n)
 abbrev pub IsSpelled : List (List ℕ) → Command → Type 0
 IsSpelled words Run = words ≡ codes "run" ∷ []
 IsSpelled words (Mend k n row) = IsRow k n row × (words ≡ codes "mend" ∷ decimal k ∷ decimal n ∷ decimal row ∷ [])
+IsSpelled words Check = words ≡ codes "check" ∷ []
 IsSpelled words (RunDir path) = ⊥
-IsSpelled words Check = ⊥
 IsSpelled words (Soak seed) = ⊥

@@ -80,7 +80,9 @@ fn reads_the_words_of_a_command(rt: HostRuntime) -> Result<(), Fail> {
         ("mend 2 3 2 2", None),
         ("run run", None),
         ("Run", None),
-        ("check", None),
+        ("check", Some(Command::Check)),
+        ("check run", None),
+        ("Check", None),
         ("soak 0", None),
         ("run-dir a", None),
     ] {

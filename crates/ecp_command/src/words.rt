@@ -18,6 +18,7 @@ pub fn command(words: &[String]) -> Option<Command<'_>>
 {
     match words {
         [word] if word.as_str() == "run" => Some(Command::Run),
+        [word] if word.as_str() == "check" => Some(Command::Check),
         [word, k, n, row] if word.as_str() == "mend" => {
             let k = number(k.as_bytes())?;
             let n = number(n.as_bytes())?;

@@ -1,8 +1,9 @@
 -- What a command answers on its output.
-use Rattle.std.specs.Prelude.{◌≡◌, ℕ, true, IsTrue, List, length, ⊤}
+use Rattle.std.specs.Prelude.{◌≡◌, ◌⊎◌, ℕ, true, IsTrue, List, ◌++◌, length, codes, decimal, ⊤}
 use Rattle.ecp_code.specs.Rows.{row}
 use Rattle.ecp_code.specs.Stripes.{blocks, stripe_len}
 use Rattle.ecp_command.specs.Input.Accepted.{Content, IsAccepted}
+use Rattle.ecp_command.specs.Input.Calls.{SessionCalls, call_count}
 use Rattle.ecp_command.specs.Words.{IsSpelled}
 use Rattle.ecp_command.specs.declared.words.commands.Command.{Command}
 use Rattle.ecp_command.specs.declared.words.commands.Command.TheVariants.{Run, RunDir, Mend, Check, Soak}
@@ -40,12 +41,22 @@ pub record IsRunOf (d : Storage) (bytes text : List ℕ) : Type 0 where
   pub accepted : IsAccepted bytes content
   pub text_of : IsTrue d.tells → IsTextOf d.paid content text
 
+-- the line that says how many calls the sessions of an input have
+abbrev pub accepted_line : List SessionCalls → List ℕ
+accepted_line sessions = codes "accepted " ++ decimal (call_count sessions) ++ codes "\n"
+
+-- the bytes are an accepted input, and the text says how many calls it has
+pub record IsCountOf (bytes text : List ℕ) : Type 0 where
+  pub content : Content
+  pub accepted : IsAccepted bytes content
+  pub says : text ≡ accepted_line content.sessions
+
 -- the text is the answer of the command to an input of these bytes, over these stores
 abbrev pub IsAnswer : Storage → Command → List ℕ → List ℕ → Type 0
 IsAnswer d (Mend k n t) bytes text = text ≡ rebuilt k t bytes
 IsAnswer d Run bytes text = IsRunOf d bytes text
+IsAnswer d Check bytes text = IsCountOf bytes text
 IsAnswer d (RunDir path) bytes text = ⊥
-IsAnswer d Check bytes text = ⊥
 IsAnswer d (Soak seed) bytes text = ⊥
 
 -- the commands that are wanted: by the words of a command line, or one alone
@@ -60,8 +71,8 @@ Only command other = other ≡ command
 abbrev pub Asks : List (List ℕ) → Wanted
 Asks words (Mend k n t) = IsSpelled words (Mend k n t)
 Asks words Run = IsSpelled words Run
+Asks words Check = IsSpelled words Check
 Asks words (RunDir path) = ⊥
-Asks words Check = ⊥
 Asks words (Soak seed) = ⊥
 
 -- no command is wanted
@@ -70,12 +81,12 @@ NothingWanted wanted = (command : Command) → ¬ wanted command
 
 -- a command is wanted that reads a script
 abbrev pub WantsScript : Wanted → Type 0
-WantsScript wanted = wanted Run
+WantsScript wanted = wanted Run ⊎ wanted Check
 
--- the command takes these bytes as its input: `run` an accepted input, `mend` any
+-- the command takes these bytes as its input: `run` and `check` an accepted input, `mend` any
 abbrev pub Takes : Command → List ℕ → Type 0
 Takes Run bytes = (content : Content) × IsAccepted bytes content
+Takes Check bytes = (content : Content) × IsAccepted bytes content
 Takes (Mend k n t) bytes = ⊤
 Takes (RunDir path) bytes = ⊤
-Takes Check bytes = ⊤
 Takes (Soak seed) bytes = ⊤

@@ -4,7 +4,7 @@ use Rattle.ecp_book.specs.Names.{StoreStart}
 use Rattle.ecp_cluster.specs.Ended.{Ended}
 use Rattle.ecp_cluster.specs.Opening.{starting}
 use Rattle.ecp_cluster.specs.declared.answer.Answer.{Answer}
-use Rattle.ecp_command.specs.Input.Accepted.{Content, IsAccepted}
+use Rattle.ecp_command.specs.Input.Accepted.{Content}
 use Rattle.ecp_command.specs.Input.Calls.{SessionCalls}
 use Rattle.ecp_command.specs.Input.Settings.{shape_of}
 use Rattle.ecp_command.specs.declared.input.head.Head.{Head}
@@ -12,10 +12,8 @@ use Rattle.ecp_entry.specs.declared.line.Line.{Line}
 use Rattle.ecp_sequencer.specs.Passes.{PassState}
 use Rattle.ecp_service.specs.Printed.{ArePrintable}
 use Rattle.ecp_service.specs.Served.{EachServed, answers_by}
-use Rattle.ecp_service.specs.Sources as sources
 use Rattle.ecp_service.specs.declared.serving.replies.Replies.{Replies}
 use Rattle.ecp_shape.specs.declared.shape.Shape.{Shape}
-use Rattle.ecp_store.specs.declared.source.Source.{Ghosts}
 
 -- The calls of the sessions were answered so, and the service was closed with this journal and these stores
 pub record IsServedBy {S : Type 0} (shape : Shape) (told : Bool) (callers spares : ℕ) (sessions : List SessionCalls) (failed : S → ℕ) (starts : List StoreStart) (answers : ℕ → List Answer) (lines : List Line) (stores : List S) : Type 0 where
@@ -32,12 +30,6 @@ abbrev pub IsServedOn : {S : Type 0} → Head → Bool → (S → ℕ) → (S �
 IsServedOn head told faults faultless callers sessions old answers lines new =
     IsServedBy (shape_of head) told callers (max head.workers 1) sessions faults
     (starts_of faults faultless (take head.nodes old)) answers lines (take head.nodes new)
-
--- the source was read to its end, and gave an accepted input with this content
-pub record IsScript {R : Type 0} (g : Ghosts R) (old new : R) (content : Content) : Type 0 where
-  pub bytes : List ℕ
-  pub read : sources.IsRead g old new bytes
-  pub accepted : IsAccepted bytes content
 
 -- The sessions of the content were served over the first of the stores. All stores came back, those past the nodes as they were
 pub record RanOver {S : Type 0} (told : Bool) (faults : S → ℕ) (faultless : S → Bool) (content : Content) (old : List S) (numbers : List ℕ) (replies : List Replies) (lines : List Line) (new : List S) : Type 0 where

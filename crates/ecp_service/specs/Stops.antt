@@ -50,6 +50,14 @@ StopsRead g old new ReadFault = Rose (g.faults old) (g.faults new)
 StopsRead g old new NoMemory = Unit {0}
 StopsRead g old new TooLong = GaveTooMuch g old new
 
+-- why no script is read: the read stops, or what it gave is refused
+abbrev pub StopsScript : {R : Type 0} → Ghosts R → R → R → Stop → Type 0
+StopsScript g old new (Refused r) = GaveRefused g old new r
+StopsScript g old new Usage = StopsRead g old new Usage
+StopsScript g old new ReadFault = StopsRead g old new ReadFault
+StopsScript g old new NoMemory = StopsRead g old new NoMemory
+StopsScript g old new TooLong = StopsRead g old new TooLong
+
 -- the reason holds: no command is wanted; one is that reads a script, and the input is refused; or the read stopped
 abbrev pub IsReason : {R : Type 0} → Ghosts R → Wanted → R → R → Stop → Type 0
 IsReason g wanted old new Usage = NothingWanted wanted

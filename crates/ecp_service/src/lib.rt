@@ -2,8 +2,8 @@
 //!
 //! `top` reads the words of a command line and runs the command that they ask for: one read of the
 //! input to its end, the work, and one answer, on the output or as one line on the diagnostic sink.
-//! `mend` rebuilds one row of a stripe, and `run` serves the calls of a script over
-//! nodes, each with one of the given stores.
+//! `mend` rebuilds one row of a stripe, `run` serves the calls of a script over nodes, each with one of the given
+//! stores, and `check` only counts them.
 //!
 //! It stands on `ecp_command` for the words and the script, on `ecp_history` for the table, the journal and
 //! the replies, on `ecp_code` for the rows of a stripe and on `ecp_store` for sources and sinks. The program
@@ -24,6 +24,7 @@ mod stop;
 mod writing;
 
 pub use answer::{DONE, WRITE_FAULT, refuse};
+pub use commands::checking::check;
 pub use commands::mending::mend;
 pub use commands::top::top;
 pub use memory::stores_in_memory;

@@ -1,10 +1,13 @@
 ghost use Rattle.std.specs.Prelude.{◌≡◌, ◌+◌, ◌<◌, ◌≤◌, [], ◌++◌, length, take, vec_len, IsTrue, IfOk, IfErr, OnOk};
+ghost use Rattle.ecp_command.specs.Input.Accepted.{view};
+ghost use Rattle.ecp_command.specs.Input.Settings.{IsInRange};
 ghost use Rattle.ecp_store.specs.Faults.{Counts};
-ghost use Rattle.ecp_service.specs.Sources.{IsRead, GaveTooMuch, GaveFew};
-ghost use Rattle.ecp_service.specs.Stops.{StopsRead};
+ghost use Rattle.ecp_service.specs.Sources.{IsRead, IsScript, GaveTooMuch, GaveFew};
+ghost use Rattle.ecp_service.specs.Stops.{StopsRead, StopsScript};
 ghost use Rattle.ecp_service.specs.declared.stop.Stop.TheVariants.{TooLong};
 
 use crate::Stop;
+use ecp_command::{Input, read_input};
 use ecp_shape::limits::MAX_INPUT;
 use ecp_store::{Failed, Source};
 use std::alloc::{AllocError, Global};
@@ -74,4 +77,16 @@ pub(crate) fn read_to_end<R: Source>(alloc: Global, input: &mut R) -> Result<Vec
         }
     }
     Err(Stop::TooLong)
+}
+
+/// The input, read to its end as a head and a script.
+pub(crate) fn read_script<R: Source>(alloc: Global, input: &mut R) -> Result<Input, Stop>
+    ensures read { IfOk result (λ script. IsScript R.Source input.old input.new (view script)) }
+    ensures head { IfOk result (λ script. IsInRange script.head) }
+    ensures err { IfErr result (StopsScript R.Source input.old input.new) }
+    ensures few { GaveFew R.Source input.old input.new }
+    ensures too_long { IsTrue R.tells → GaveTooMuch R.Source input.old input.new → result ≡ Err TooLong }
+{
+    let bytes = read_to_end(alloc, input)?;
+    Ok(read_input(alloc, &bytes)?)
 }

@@ -1,5 +1,5 @@
 -- The calls of a script, with their sessions and phases.
-use Rattle.std.specs.Prelude.{ℕ, ◌+◌, ◌==◌, not, Bool, true, false, List, [], ◌∷◌, length, map, filter, count_by}
+use Rattle.std.specs.Prelude.{ℕ, ◌+◌, ◌==◌, not, Bool, true, false, List, [], ◌∷◌, length, map, filter, count_by, sum_by}
 use Rattle.std.specs.List.{range_with_len}
 use Rattle.ecp_shape.specs.declared.limits.TheConstants.{MAX_SESSIONS}
 use Rattle.ecp_command.specs.declared.input.call.Call.{Call as TheCall}
@@ -39,6 +39,10 @@ pub record SessionCalls : Type 0 where
 
 abbrev pub session_of : List (ℕ × Planned) → ℕ → SessionCalls
 session_of cs number = record { number = number; calls = map (λ c. c.1) (filter (λ c. c.0 == number) cs) }
+
+-- how many calls the sessions have
+abbrev pub call_count : List SessionCalls → ℕ
+call_count sessions = sum_by (λ s. length s.calls) sessions
 
 abbrev pub has_calls : SessionCalls → Bool
 has_calls s = not (length s.calls == 0)

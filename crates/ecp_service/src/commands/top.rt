@@ -9,6 +9,7 @@ ghost use Rattle.ecp_shape.specs.declared.limits.TheConstants.{MAX_NODES};
 
 use crate::Stop;
 use crate::answer::{DONE, WRITE_FAULT, refuse};
+use crate::commands::checking::check;
 use crate::commands::mending::mend;
 use crate::commands::running::run;
 use ecp_command::{Command, command};
@@ -67,9 +68,8 @@ pub fn top<
     match command(words) {
         Some(Command::Mend { k, n, row }) => (mend(alloc, k, n, row, input, out, diag), stores),
         Some(Command::Run) => run(rt, alloc, input, out, diag, stores, gate),
-        Some(Command::RunDir(_) | Command::Check | Command::Soak(_)) => {
-            (refuse(diag, Stop::Usage), stores)
-        }
+        Some(Command::Check) => (check(alloc, input, out, diag), stores),
+        Some(Command::RunDir(_) | Command::Soak(_)) => (refuse(diag, Stop::Usage), stores),
         None => (refuse(diag, Stop::Usage), stores),
     }
 }

@@ -5,7 +5,7 @@ ghost use Rattle.ecp_command.specs.Input.Settings.{IsInRange};
 ghost use Rattle.ecp_command.specs.declared.words.commands.Command.{Command};
 ghost use Rattle.ecp_service.specs.Answers.{Only};
 ghost use Rattle.ecp_service.specs.Ends.{Answers};
-ghost use Rattle.ecp_service.specs.Over.{IsScript, RanOver};
+ghost use Rattle.ecp_service.specs.Over.{RanOver};
 ghost use Rattle.ecp_service.specs.Paid.{storage};
 ghost use Rattle.ecp_service.specs.Served.{run_lines};
 ghost use Rattle.ecp_service.specs.Servable.{AreServable};
@@ -16,11 +16,11 @@ ghost use Rattle.ecp_shape.specs.declared.limits.TheConstants.{MAX_NODES, MAX_SE
 
 use crate::Stop;
 use crate::buffer::Buffer;
-use crate::reading::read_to_end;
+use crate::reading::read_script;
 use crate::serving::fit::lines_fit;
 use crate::serving::on::serve_on;
 use crate::serving::over::{Script, ScriptRun};
-use ecp_command::{Input, Session, read_input};
+use ecp_command::{Input, Session};
 use ecp_helper::Gate;
 use ecp_store::{NoMemory, Source, Store};
 use std::alloc::Global;
@@ -64,18 +64,6 @@ pub(crate) fn run_input<
         }
         Err(stop) => (Err(stop), stores),
     }
-}
-
-/// The input, read to its end.
-fn read_script<R: Source>(alloc: Global, input: &mut R) -> Result<Input, Stop>
-    ensures read { IfOk result (λ i. IsScript R.Source input.old input.new (view i)) }
-    ensures head { IfOk result (λ i. IsInRange i.head) }
-    ensures err { IfErr result (IsReason R.Source (Only Command.Run) input.old input.new) }
-    ensures few { GaveFew R.Source input.old input.new }
-    ensures too_long { IsTrue R.tells → GaveTooMuch R.Source input.old input.new → result ≡ Err stop.TooLong }
-{
-    let bytes = read_to_end(alloc, input)?;
-    Ok(read_input(alloc, &bytes)?)
 }
 
 /// Serves the calls of an input.
