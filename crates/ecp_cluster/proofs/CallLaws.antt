@@ -1,5 +1,5 @@
 -- A call, from its beginning to its end.
-use Rattle.std.proofs.Common.{◌≡◌, ℕ, ◌-◌, ◌≤◌, Bool, List, [], ◌∷◌, ◌++◌, length, Option, Some, Result, Ok, Err, IfOk, OnErr, refl, sym, ◌∙◌, ap, arith}
+use Rattle.std.proofs.Common.{◌≡◌, ℕ, ◌+◌, ◌-◌, ◌≤◌, Bool, List, [], ◌∷◌, ◌++◌, length, Option, Some, Result, Ok, Err, IfOk, OnOk, OnErr, refl, sym, ◌∙◌, ap, arith}
 use Rattle.std.specs.Prelude.{option_and_then, unwrap_or}
 use Rattle.std.proofs.lemmas.List.Elements.{All-nil, All-push}
 use Rattle.ecp_shape.specs.declared.shape.Shape.{Shape}
@@ -15,7 +15,8 @@ use Rattle.ecp_sequencer.specs.Passes.{PassState}
 use Rattle.ecp_sequencer.specs.Sequencers.{SequencerState}
 use Rattle.ecp_sequencer.specs.Steps.{Event, IsOfCall, call_with}
 use Rattle.ecp_sequencer.proofs.StepLaws.{steps_both}
-use Rattle.ecp_coord.specs.Calls.{Ends, IsOpen, ended}
+use Rattle.ecp_coord.specs.Calls.{Begins, Ends, IsFresh, IsOpen, ended}
+use Rattle.ecp_coord.proofs.ClosingLaws.{begun_with}
 use Rattle.ecp_cluster.specs.Answered.{Answered, FoundNone, HasBegun}
 use Rattle.ecp_cluster.specs.Concluded.{Concludes, GoesFrom, WentOn}
 
@@ -38,6 +39,18 @@ open_same v w asked notes calls is = record {
 
 -- ---- of one event
 
+-- that begins it
+pub begun_either : {R E : Type 0} (shape : Shape) (told : Bool) (s t : SequencerState) (v w : PassState) (asked : Deed) (result : Result R E) → OnOk result (Begins shape told s v asked t w) → OnOk result (IsFresh w asked)
+    → OnOk result (w.calls ≡ v.calls + 1) → OnOk result (HasBegun v asked w)
+begun_either shape told s t v w asked (Ok r) begins fresh counted = record {
+  more = _;
+  steps = begins.steps;
+  calls = counted;
+  fresh = fresh;
+  room = omega (arith, begun_with shape told s t v w asked begins);
+}
+begun_either shape told s t v w asked (Err e) begins fresh counted = tt
+
 -- that notes nothing
 pub waited : (shape : Shape) (told : Bool) (s t : SequencerState) (v w : PassState) → Event shape told s v [] [] t w → w.calls ≡ v.calls → WentOn v w
 waited shape told s t v w event calls = record { more = []; steps = event.steps; calls = calls }
@@ -57,6 +70,7 @@ concluded shape told s t v w asked what ends = record {
   stands = (s.history, ends.event.front ∙ ends.event.history);
   act = refl;
   bytes = refl;
+  left = tt;
 }
 
 -- ---- of several steps
@@ -77,6 +91,7 @@ concludes_past shape told v p w asked what given goes c = record {
   stands = (c.stands.0, c.stands.1 ∙ ap (λ (h : ℕ). c.stands.0 ++ item h c.entry ∷ []) goes.steps.hand);
   act = c.act;
   bytes = c.bytes;
+  left = tt;
 }
 
 -- ---- the whole call

@@ -8,3 +8,5 @@ pub mod ReadLaws
 pub mod SumLaws
 pub mod PutLaws
 pub mod KeepLaws
+pub mod WholeLaws
+pub mod CatLaws

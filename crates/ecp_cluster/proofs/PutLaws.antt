@@ -145,6 +145,7 @@ module _ (shape : Shape) (told : Bool) {N : Type 0} (u v w : PassState) (asked :
         stands = (s.sequence.history, p.event.front ∙ p.event.history ∙ ap (λ (h : ℕ). s.sequence.history ++ item h x ∷ []) from.goes.steps.hand);
         act = refl;
         bytes = refl;
+        left = tt;
       }
 
 -- ---- what was done, by the answer

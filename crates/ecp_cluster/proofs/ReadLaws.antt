@@ -1,5 +1,5 @@
 -- A read, from its plan to its end.
-use Rattle.std.proofs.Common.{◌≡◌, ℕ, ◌+◌, ◌-◌, Bool, List, [], ◌∷◌, ◌++◌, length, Option, Some, None, Result, Ok, Err, IfOk, IfErr, OnErr, refl, sym, ◌∙◌, ap, subst, arith, inl, inr, append-nil}
+use Rattle.std.proofs.Common.{◌≡◌, ℕ, ◌+◌, ◌-◌, ◌≤◌, Bool, List, [], ◌∷◌, ◌++◌, length, Option, Some, None, Result, Ok, Err, IfOk, IfErr, OnErr, refl, sym, ◌∙◌, ap, subst, arith, inl, inr, append-nil}
 use Rattle.std.specs.Prelude.{MatchOption}
 use Rattle.ecp_shape.specs.declared.shape.Shape.{Shape}
 use Rattle.ecp_book.specs.Logs.{Log}
@@ -10,10 +10,12 @@ use Rattle.ecp_entry.specs.declared.deed.Deed.{Deed}
 use Rattle.ecp_entry.specs.declared.deed.Deed.TheVariants as deed
 use Rattle.ecp_entry.specs.declared.entry.Entry.{Entry}
 use Rattle.ecp_entry.specs.declared.part.Part.{Part}
+use Rattle.ecp_entry.specs.declared.part.Part.TheVariants as part
 use Rattle.ecp_entry.specs.Items.{item}
 use Rattle.ecp_entry.specs.Told.{items_by}
 use Rattle.ecp_plan.specs.declared.plan.Plan.{Plan}
-use Rattle.ecp_sequencer.specs.Facts.{HandFacts, facts_of}
+use Rattle.ecp_sequencer.specs.Facts.{HandFacts, facts_of, room_noted}
+use Rattle.ecp_sequencer.specs.Notes.{note, entering_of}
 use Rattle.ecp_sequencer.specs.Passes.{PassState}
 use Rattle.ecp_sequencer.specs.Sequencers.{SequencerState}
 use Rattle.ecp_sequencer.specs.Steps.{Event, Steps, call_with}
@@ -22,13 +24,15 @@ use Rattle.ecp_sequencer.proofs.StepLaws.{steps_both, steps_none}
 use Rattle.ecp_coord.specs.declared.ask.Ask.{Ask}
 use Rattle.ecp_coord.specs.declared.ask.Ask.TheVariants as ask
 use Rattle.ecp_coord.specs.declared.no_plan.NoPlan.{NoPlan}
-use Rattle.ecp_coord.specs.Calls.{EndsAny, HasOpen, IsOpen, closing}
+use Rattle.ecp_coord.specs.declared.no_plan.NoPlan.TheVariants as no
+use Rattle.ecp_coord.specs.Calls.{EndsAny, HasOpen, IsOpen, StaysOpen, closing}
 use Rattle.ecp_coord.specs.Coords.{CoordState}
-use Rattle.ecp_coord.specs.Plans.{CanPlan, Plans, RefusesPlan, planning_of, refusal_of}
+use Rattle.ecp_coord.specs.Plans.{CanPlan, Plans, RefusesPlan, part_for, planning_of, refusal_of}
 use Rattle.ecp_coord.specs.Plans as plans
+use Rattle.ecp_coord.proofs.StillLaws.{stays_open}
 use Rattle.ecp_requestor.specs.Crews.{EndedAt, SameCall}
 use Rattle.ecp_requestor.specs.Fetching.{Advances, Ended, GoesOn}
-use Rattle.ecp_cluster.specs.Concluded.{Answers, EndsUnplanned, GoesBy, IsPlannedFrom, ReadBy, WentOn}
+use Rattle.ecp_cluster.specs.Concluded.{Answers, EndsUnplanned, GoesBy, IsPlannedFrom, LeavesOpen, ReadBy, WentOn}
 use Rattle.ecp_cluster.specs.declared.answer.Answer.{Answer}
 use Rattle.ecp_cluster.proofs.CallLaws.{same_asked, waited}
 
@@ -38,11 +42,50 @@ use Rattle.ecp_cluster.proofs.CallLaws.{same_asked, waited}
 still_asks : (v w : PassState) (a b : Deed) → IsOpen v a → IsOpen w b → SameCall v w → b ≡ a
 still_asks v w a b is now same = same_asked (facts_of w.notes).call (w.calls - 1) (v.calls - 1) b a now.call (same.1 ∙ is.call)
 
+-- ---- whether it is open still
+
+-- the hand of a pass has room for the entry of this part, and for the end of the call behind it
+abbrev RoomFor : Part → PassState → Type 0
+RoomFor (part.Part j) v = 2 ≤ room_noted v.notes
+RoomFor part.End v = Unit {0}
+
+-- what a part without data leaves, and what one of a plan does
+leaves_end : (w : PassState) (asked : Deed) (at : Part) (what : Act) → (what ≡ act.Data → ⊥) → StaysOpen at 1 asked w → LeavesOpen at what w asked
+leaves_end w asked part.End what off stays = tt
+leaves_end w asked (part.Part j) what off stays = (stays.0, λ is. absurd (off is))
+
+leaves_more : (w : PassState) (asked : Deed) (at : Part) (what : Act) → StaysOpen at 2 asked w → LeavesOpen at what w asked
+leaves_more w asked part.End what stays = tt
+leaves_more w asked (part.Part j) what stays = (stays.0, λ is. stays.1)
+
+-- a part that is entered in that room leaves the call open
+stays_for : (v w : PassState) (asked : Deed) (at : Part) (position : ℕ) (what : Act) → IsOpen v asked → RoomFor at v
+    → w.notes ≡ v.notes ++ note position (room_noted v.notes - 1) (entering_of v.hand (closing v asked at position what [])) ∷ [] → w.calls ≡ v.calls → StaysOpen at 1 asked w
+stays_for v w asked part.End position what is some noted calls = tt
+stays_for v w asked (part.Part j) position what is some noted calls = stays_open v w asked (part.Part j) position position 1 what [] is noted calls (omega arith) (omega (arith, some))
+
+-- a part may be planned where it has that room
+pub room_by : (shape : Shape) (v : PassState) (a : Ask) → CanPlan shape v a → RoomFor (part_for a) v
+room_by shape v (ask.Read name index) can = tt
+room_by shape v (ask.Sum name index) can = tt
+room_by shape v (ask.CatPart index) can = can.1.room
+
+-- a refusal is no data
+no_data_refused : (why : NoPlan) (what : Act) → refusal_of why ≡ Some what → what ≡ act.Data → ⊥
+no_data_refused no.NoSuchFile what is says = cc (is, says)
+no_data_refused (no.NoSuchBlock count) what is says = cc (is, says)
+no_data_refused (no.Unrecoverable live) what is says = cc (is, says)
+no_data_refused no.AlreadyLive what is says = cc is
+no_data_refused (no.Clash row) what is says = cc is
+no_data_refused (no.TargetDown node) what is says = cc is
+no_data_refused no.NoMemory what is says = cc is
+
 -- ---- the plan
 
 -- this part of it ended, by one event
-parted : (shape : Shape) (told : Bool) (s t : SequencerState) (v w : PassState) (asked : Deed) (at : Part) (what : Act) → IsOpen v asked → EndsAny shape told s v at what t w → Answers shape told v asked at what [] w
-parted shape told s t v w asked at what is ends =
+parted : (shape : Shape) (told : Bool) (s t : SequencerState) (v w : PassState) (asked : Deed) (at : Part) (what : Act) → IsOpen v asked → RoomFor at v → (what ≡ act.Data → ⊥) → EndsAny shape told s v at what t w
+    → Answers shape told v asked at what [] w
+parted shape told s t v w asked at what is some off ends =
     let same : ends.asked ≡ asked = still_asks v v asked ends.asked is ends.is_open (refl, refl) in
     record {
       entry = closing v ends.asked at (length s.history) what [];
@@ -57,16 +100,19 @@ parted shape told s t v w asked at what is ends =
       stands = (s.history, ends.event.front ∙ ends.event.history);
       act = refl;
       bytes = refl;
+      left = leaves_end w asked at what off (stays_for v w asked at (length s.history) what is some
+          (subst (λ (d : Deed). w.notes ≡ v.notes ++ note (length s.history) (room_noted v.notes - 1) (entering_of v.hand (closing v d at (length s.history) what [])) ∷ []) same ends.event.steps.noted) ends.calls);
     }
 
-unplanned_by : (shape : Shape) (told : Bool) (s t : SequencerState) (v w : PassState) (asked : Deed) (at : Part) (said : Option Act) → IsOpen v asked → w.calls ≡ v.calls
+unplanned_by : (shape : Shape) (told : Bool) (s t : SequencerState) (v w : PassState) (asked : Deed) (at : Part) (said : Option Act) → IsOpen v asked → RoomFor at v
+    → ((what : Act) → said ≡ Some what → what ≡ act.Data → ⊥) → w.calls ≡ v.calls
     → MatchOption said (Event shape told s v [] [] t w) (λ what. EndsAny shape told s v at what t w) → MatchOption said (WentOn v w) (λ what. Answers shape told v asked at what [] w)
-unplanned_by shape told s t v w asked at None is calls event = waited shape told s t v w event calls
-unplanned_by shape told s t v w asked at (Some what) is calls ends = parted shape told s t v w asked at what is ends
+unplanned_by shape told s t v w asked at None is some off calls event = waited shape told s t v w event calls
+unplanned_by shape told s t v w asked at (Some what) is some off calls ends = parted shape told s t v w asked at what is some (off what refl) ends
 
-pub unplanned : (shape : Shape) (told : Bool) (s t : CoordState) (v w : PassState) (asked : Deed) (at : Part) (why : NoPlan) → IsOpen v asked → RefusesPlan shape told s v at (refusal_of why) t w
-    → EndsUnplanned shape told v asked at why w
-unplanned shape told s t v w asked at why is r = unplanned_by shape told s.sequence t.sequence v w asked at (refusal_of why) is r.calls r.event
+pub unplanned : (shape : Shape) (told : Bool) (s t : CoordState) (v w : PassState) (asked : Deed) (at : Part) (why : NoPlan) → IsOpen v asked → RoomFor at v
+    → RefusesPlan shape told s v at (refusal_of why) t w → EndsUnplanned shape told v asked at why w
+unplanned shape told s t v w asked at why is some r = unplanned_by shape told s.sequence t.sequence v w asked at (refusal_of why) is some (no_data_refused why) r.calls r.event
 
 -- the answer that says so, or want of memory
 pub refused_ok : {E : Type 0} (shape : Shape) (told : Bool) (v w : PassState) (asked : Deed) (at : Part) (said : Option Act) (result : Result Answer E)
@@ -102,10 +148,10 @@ pub planned_either : (shape : Shape) (told : Bool) {N : Type 0} (s t : CoordStat
 planned_either shape told s t v w asked (Ok plan) is p = planned_from shape told s t v w asked plan is p
 planned_either shape told s t v w asked (Err why) is p = tt
 
-pub unplanned_either : (shape : Shape) (told : Bool) {N : Type 0} (s t : CoordState) (v w : PassState) (asked : Deed) (at : Part) (result : Result (Plan N) NoPlan) → IsOpen v asked
+pub unplanned_either : (shape : Shape) (told : Bool) {N : Type 0} (s t : CoordState) (v w : PassState) (asked : Deed) (at : Part) (result : Result (Plan N) NoPlan) → IsOpen v asked → RoomFor at v
     → IfErr result (λ why. RefusesPlan shape told s v at (refusal_of why) t w) → IfErr result (λ why. EndsUnplanned shape told v asked at why w)
-unplanned_either shape told s t v w asked at (Ok plan) is r = tt
-unplanned_either shape told s t v w asked at (Err why) is r = unplanned shape told s t v w asked at why is r
+unplanned_either shape told s t v w asked at (Ok plan) is some r = tt
+unplanned_either shape told s t v w asked at (Err why) is some r = unplanned shape told s t v w asked at why is some r
 
 -- ---- the fetch
 
@@ -134,6 +180,10 @@ module _ (shape : Shape) (told : Bool) {N : Type 0} (v p : PassState) (asked : D
         late = omega (arith, from.late, a.later.point);
       }
 
+  -- a plan has room for its part, and for what may come of the call behind it
+  enough : 3 ≤ room_noted p.notes
+  enough = omega (arith, from.planned.room, from.planned.most)
+
   pub ended_from : (before : Log) (what : Act) (w : PassState) → EndedAt shape told before p plan.part what w → Answers shape told v asked plan.part what [] w
   ended_from before what w e =
       let same : e.asked ≡ asked = still_asks p p asked e.asked from.goes.is_open e.is_open (refl, refl) in
@@ -151,6 +201,7 @@ module _ (shape : Shape) (told : Bool) {N : Type 0} (v p : PassState) (asked : D
         stands = (before, e.front ∙ ap (λ (h : ℕ). before ++ item h x ∷ []) from.goes.steps.hand);
         act = refl;
         bytes = refl;
+        left = leaves_more w asked plan.part what (subst (λ (d : Deed). StaysOpen plan.part 2 d w) same e.stays);
       }
 
   pub given_from : (s t : CoordState) (bytes : List ℕ) (w : PassState) → plans.Finishes shape told s p plan bytes t w → Answers shape told v asked plan.part act.Data bytes w
@@ -170,6 +221,8 @@ module _ (shape : Shape) (told : Bool) {N : Type 0} (v p : PassState) (asked : D
         stands = (s.sequence.history, f.event.front ∙ f.event.history ∙ ap (λ (h : ℕ). s.sequence.history ++ item h x ∷ []) from.goes.steps.hand);
         act = refl;
         bytes = refl;
+        left = leaves_more w asked plan.part act.Data (subst (λ (d : Deed). StaysOpen plan.part 2 d w) same
+            (stays_open p w f.asked plan.part (length s.sequence.history) plan.point 2 act.Data bytes f.is_open f.event.steps.noted f.calls (omega arith) (omega (arith, enough))));
       }
 
 -- with the bytes of the block that was fetched

@@ -5,6 +5,7 @@ use Rattle.ecp_book.specs.Logs.{Log}
 use Rattle.ecp_entry.specs.declared.act.Act.{Act}
 use Rattle.ecp_entry.specs.declared.deed.Deed.{Deed}
 use Rattle.ecp_entry.specs.declared.entry.Entry.{Entry}
+use Rattle.ecp_sequencer.specs.Facts.{room_noted}
 use Rattle.ecp_sequencer.specs.Passes.{PassState}
 use Rattle.ecp_sequencer.specs.Rounds.{Raised}
 use Rattle.ecp_sequencer.specs.Sequencers.{SequencerState}
@@ -24,12 +25,13 @@ pub record FoundNone (v w : PassState) : Type 0 where
   pub steps : Steps v [] more w
   pub calls : v.calls ≤ w.calls
 
--- the next call of a pass, which asks for this, began: nothing else was noted of it
+-- the next call of a pass, which asks for this, began: nothing else was noted of it, and the hand has room for its first entries
 pub record HasBegun (v : PassState) (asked : Deed) (w : PassState) : Type 0 where
   pub more : Log
   pub steps : Steps v [] more w
   pub calls : w.calls ≡ v.calls + 1
   pub fresh : IsFresh w asked
+  pub room : 3 ≤ room_noted w.notes
 
 -- The open call of a pass, which asks for this, ended with this act: the pass was raised, or was not, and then an event of a legal history
 -- ended the call

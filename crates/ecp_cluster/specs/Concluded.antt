@@ -1,8 +1,9 @@
 -- How an open call of a pass goes on, and how it is concluded.
-use Rattle.std.specs.Prelude.{◌≡◌, ℕ, ◌-◌, ◌≤◌, Bool, List, [], ◌∷◌, length, MatchOption}
+use Rattle.std.specs.Prelude.{◌≡◌, ℕ, ◌-◌, ◌≤◌, Bool, List, [], ◌∷◌, length, MatchOption, ⊤}
 use Rattle.ecp_shape.specs.declared.shape.Shape.{Shape}
 use Rattle.ecp_book.specs.Logs.{Log}
 use Rattle.ecp_entry.specs.declared.act.Act.{Act}
+use Rattle.ecp_entry.specs.declared.act.Act.TheVariants.{Data}
 use Rattle.ecp_entry.specs.declared.deed.Deed.{Deed}
 use Rattle.ecp_entry.specs.declared.entry.Entry.{Entry}
 use Rattle.ecp_entry.specs.declared.part.Part.{Part}
@@ -10,6 +11,7 @@ use Rattle.ecp_entry.specs.declared.part.Part.TheVariants as part
 use Rattle.ecp_entry.specs.Items.{item}
 use Rattle.ecp_history.specs.Legal.{TellsLegal}
 use Rattle.ecp_plan.specs.declared.plan.Plan.{Plan}
+use Rattle.ecp_sequencer.specs.Facts.{room_noted}
 use Rattle.ecp_sequencer.specs.Notes.{call_of}
 use Rattle.ecp_sequencer.specs.Passes.{PassState}
 use Rattle.ecp_sequencer.specs.Steps.{EndsWith, Steps, call_with}
@@ -30,6 +32,11 @@ pub record GoesFrom (v : PassState) (asked : Deed) (w : PassState) : Type 0 wher
   pub is_open : IsOpen w asked
   pub calls : w.calls ≡ v.calls
 
+-- After a part of a call the call is open still, with room for its end, and after one with data for another part too. The end leaves none open
+abbrev pub LeavesOpen : Part → Act → PassState → Deed → Type 0
+LeavesOpen (part.Part j) what w asked = IsOpen w asked × (what ≡ Data → 2 ≤ room_noted w.notes)
+LeavesOpen part.End what w asked = ⊤
+
 -- This part of the open call of a pass, which asks for this, ended with one entry: of this act and these bytes, with its point past the old
 -- front. The new front is legal, and ends with it
 pub record Answers (shape : Shape) (told : Bool) (v : PassState) (asked : Deed) (at : Part) (what : Act) (given : List ℕ) (w : PassState) : Type 0 where
@@ -45,6 +52,7 @@ pub record Answers (shape : Shape) (told : Bool) (v : PassState) (asked : Deed) 
   pub stands : EndsWith w.front (item v.hand entry)
   pub act : entry.line.act ≡ what
   pub bytes : entry.bytes ≡ given
+  pub left : LeavesOpen at what w asked
 
 -- the call itself ended so
 abbrev pub Concludes : Shape → Bool → PassState → Deed → Act → List ℕ → PassState → Type 0

@@ -6,3 +6,5 @@ pub mod Opening
 pub mod Concluded
 pub mod Puts
 pub mod Keeping
+pub mod Whole
+pub mod Reading

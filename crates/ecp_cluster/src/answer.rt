@@ -15,8 +15,12 @@ pub struct Answer {
     pub bytes: Block,
     /// Whether it is a sum's: it has the digest of the block in place of the bytes.
     pub by_digest: bool,
-    /// The SHA-256 of the block, where a sum has data; else zero.
+    /// The SHA-256 of the block, where a sum has data, or of the file that was read whole; else zero.
     pub digest: [u8; 32],
+    /// How many bytes the file has that was opened to be read whole; else 0.
+    pub len: u32,
+    /// How the part ended that broke the reading of a file off; else the act of the call's entry.
+    pub cause: Act,
 }
 
 impl Answer {
@@ -32,6 +36,8 @@ impl Answer {
             by_digest: true,
             digest: digest_for(self.act, self.bytes.bytes()),
             bytes: Block::new(Vec::new(alloc)),
+            len: 0,
+            cause: self.act,
         }
     }
 }

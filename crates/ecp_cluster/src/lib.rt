@@ -21,6 +21,7 @@ mod calls;
 mod closed;
 mod closing;
 mod crew;
+mod file_sum;
 mod opening;
 mod raising;
 mod room;

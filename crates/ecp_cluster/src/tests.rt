@@ -1,3 +1,4 @@
+mod cats;
 mod closed_together;
 mod held;
 mod joined;

@@ -168,9 +168,10 @@ empty_closes shape told s t v w name len first enters some =
       );
     }
 
--- and a call that just began has room for both entries
+-- and a call that just began has room for that entry and its end, and for more
+pub begun_with : (shape : Shape) (told : Bool) (s t : SequencerState) (v w : PassState) (asked : Deed) → Begins shape told s v asked t w → room_noted w.notes ≡ ROOM
+begun_with shape told s t v w asked begins =
+    ap (λ (ns : Log). room_noted ns) begins.steps.noted ∙ room-more v.notes (length s.history) ROOM (beginning_of (call_with v.calls asked))
+
 pub begun_room : (shape : Shape) (told : Bool) (s t : SequencerState) (v w : PassState) (asked : Deed) → Begins shape told s v asked t w → 2 ≤ room_noted w.notes
-begun_room shape told s t v w asked begins =
-    let room : room_noted w.notes ≡ ROOM =
-    ap (λ (ns : Log). room_noted ns) begins.steps.noted ∙ room-more v.notes (length s.history) ROOM (beginning_of (call_with v.calls asked)) in
-    omega (arith, room)
+begun_room shape told s t v w asked begins = omega (arith, begun_with shape told s t v w asked begins)

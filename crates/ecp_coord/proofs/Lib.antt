@@ -30,6 +30,7 @@ pub mod JoinLaws
 pub mod StatLaws
 pub mod OpeningLaws
 pub mod ClosingLaws
+pub mod StillLaws
 pub mod UpLaws
 pub mod OvertakeLaws
 pub mod StoreLaws

@@ -191,7 +191,7 @@ pub record IsFit (shape : Shape) (told : Bool) (asked : Deed) (v : PassState) {N
   pub onto : plan.to ≡ None
 
 module _ (shape : Shape) (told : Bool) (s t : SequencerState) (v w : PassState) (asked : Deed) (room : ℕ) {N : Type 0} (plan : Plan N) where
-  pub planned_is : Event shape told s v [] (note (length s.history) room (planning_of plan) ∷ []) t w → w.calls ≡ v.calls → IsOpen v asked → 1 ≤ room → MAX_ATTEMPTS + 2 ≤ room + plan.attempt
+  pub planned_is : Event shape told s v [] (note (length s.history) room (planning_of plan) ∷ []) t w → w.calls ≡ v.calls → IsOpen v asked → 1 ≤ room → MAX_ATTEMPTS + 3 ≤ room + plan.attempt
       → plan.front.items ≡ s.history → plan.point ≡ length s.history → IsFit shape told asked v plan → IsPlanned shape told w plan
   planned_is event calls open_call some enough front point fit =
       let noted : Log = v.notes ++ note (length s.history) room (planning_of plan) ∷ [] in

@@ -1,5 +1,5 @@
 -- The open call of a pass, how it begins, and how an event ends it.
-use Rattle.std.specs.Prelude.{◌≡◌, ℕ, ◌-◌, ◌≤◌, Bool, List, [], ◌∷◌, length, Some}
+use Rattle.std.specs.Prelude.{◌≡◌, ℕ, ◌-◌, ◌≤◌, Bool, List, [], ◌∷◌, length, Some, ⊤}
 use mathlib.Core.List.{IsPrefix}
 use Rattle.ecp_shape.specs.declared.shape.Shape.{Shape}
 use Rattle.ecp_entry.specs.declared.act.Act.{Act}
@@ -59,6 +59,12 @@ pub record EndsBy (shape : Shape) (told : Bool) (s : SequencerState) (v : PassSt
   pub event : Event shape told s v (closing v asked at point act bytes ∷ []) (note (length s.history) (room_noted v.notes - 1) (entering_of v.hand (closing v asked at point act bytes)) ∷ []) t w
   pub begins : IsPrefix v.front s.history
   pub calls : w.calls ≡ v.calls
+
+-- After the entry of a part the call of a pass that asks for this is open still, and its hand has room for so many entries more. The end leaves
+-- no call open
+abbrev pub StaysOpen : Part → ℕ → Deed → PassState → Type 0
+StaysOpen (part.Part j) room asked w = IsOpen w asked × (room ≤ room_noted w.notes)
+StaysOpen part.End room asked w = ⊤
 
 -- an event that makes the entry of this part with this act, at its own position and with no bytes, whatever the call asks for
 abbrev pub EndsAny : Shape → Bool → SequencerState → PassState → Part → Act → SequencerState → PassState → Type 0

@@ -73,7 +73,7 @@ IsDue shape p asked at front = PartFits shape (history_of front) (closing p aske
 -- The plan is the last one that the pass's hand noted, in its open call. It is for a part of that call that has a block and is due, which is
 -- the end of a read. It is sound, it makes the block that this part asks for, which could be had at its point, and all entries of the hand
 -- stand before that. Each attempt before this one came to nothing by an entry at a position that the plan has. There is room for the
--- attempts that are left, for the entry of the part and for the end of the call. At its point the row of each helper was live on its node.
+-- attempts that are left, for the entry of the part, for that of another part without a plan, and for the end of the call. At its point the row of each helper was live on its node.
 -- The block is to be kept nowhere
 pub record IsPlanned (shape : Shape) (told : Bool) {N : Type 0} (p : PassState) (plan : Plan N) : Type 0 where
   pub asked : Deed
@@ -89,7 +89,7 @@ pub record IsPlanned (shape : Shape) (told : Bool) {N : Type 0} (p : PassState) 
   pub attempt : plan.attempt ≡ plan.voids.len + 1
   pub most : plan.attempt ≤ MAX_ATTEMPTS
   pub voids : AreVoids shape (λ t x. is_voiding t plan.stripe x) p.hand plan.front.items plan.voids
-  pub room : MAX_ATTEMPTS + 2 ≤ room_noted p.notes + plan.attempt
+  pub room : MAX_ATTEMPTS + 3 ≤ room_noted p.notes + plan.attempt
   pub fits : shape.k ≤ vec_capacity plan.hops
   pub live : All (λ h. is_live_on (told_table shape plan.front.items) plan.stripe h.row h.node ≡ true) plan.hops.items
   pub onto : plan.to ≡ None
@@ -147,9 +147,11 @@ pub record AsksWhole (p : PassState) (name : List ℕ) (index : ℕ) : Type 0 wh
   pub asks : AsksBlock asked name index
   pub fresh : IsFresh p asked
 
--- the open call of a pass is a `cat` of this file, which has such a block in the pass's front, and the part for that block is due
+-- The open call of a pass is a `cat` of this file, which has such a block in the pass's front, and the part for that block is due. The hand
+-- has room for the entry of the part, and for the end of the call
 pub record AsksPart (shape : Shape) (p : PassState) (name : List ℕ) (index : ℕ) : Type 0 where
   pub is_open : IsOpen p (deed.Cat name)
+  pub room : 2 ≤ room_noted p.notes
   pub due : IsDue shape p (deed.Cat name) (part.Part (suc index)) p.front
   pub there : IsSome (block_at shape (told_table shape p.front) name index)
   pub numbered : suc index < 2 ^ 32

@@ -18,6 +18,7 @@ use Rattle.ecp_coord.specs.Plans as plans
 use Rattle.ecp_coord.specs.declared.replanned.Replanned.{Replanned}
 use Rattle.ecp_coord.specs.declared.replanned.Replanned.TheVariants.{Planned, StillGood, Unrecoverable, TargetDown, Unsteady}
 use Rattle.ecp_coord.proofs.SameLaws.{planned_by}
+use Rattle.ecp_coord.proofs.StillLaws.{stays_open}
 use Rattle.ecp_requestor.specs.Crews.{MovesOn, StaysOn, EndsOn, Replans}
 use Rattle.ecp_requestor.specs.Fetching.{IsLater, Advances}
 
@@ -82,8 +83,8 @@ module _ (shape : Shape) (told : Bool) {N : Type 0} where
     stayed : plans.Stands shape told s v old new t w → StaysOn s.sequence.history v old new w
     stayed p = record { steps = p.event.steps; front = p.event.front ∙ p.event.history ∙ append-nil s.sequence.history; calls = p.calls; same = p.same }
 
-    gave_up : (what : Act) → plans.GivesUp shape told s v old new what t w → EndsOn shape told s.sequence.history v old new what w
-    gave_up what p =
+    gave_up : (what : Act) → IsPlanned shape told v old → plans.GivesUp shape told s v old new what t w → EndsOn shape told s.sequence.history v old new what w
+    gave_up what planned p =
         let e = p.ends.ends in
         record {
           ends = record {
@@ -95,6 +96,8 @@ module _ (shape : Shape) (told : Bool) {N : Type 0} where
             front = e.event.front ∙ e.event.history;
             legal = e.event.legal;
             calls = e.calls;
+            stays = stays_open v w e.asked old.part (length s.sequence.history) (length s.sequence.history) 2 what [] e.is_open e.event.steps.noted e.calls (omega arith)
+                (omega (arith, planned.room, planned.most));
           };
           moves = p.moves;
           same = p.same;
@@ -103,15 +106,15 @@ module _ (shape : Shape) (told : Bool) {N : Type 0} where
     abbrev Right : Replanned → Type 0
     Right answer = answer ≡ found_by_replanning shape (history_of s.sequence.history) old
 
-    pub crew_of : (answer : Replanned) → Right answer → Did shape told s v old new t w answer → Replans shape told v old new w answer
-    crew_of Planned right did =
+    pub crew_of : (answer : Replanned) → IsPlanned shape told v old → Right answer → Did shape told s v old new t w answer → Replans shape told v old new w answer
+    crew_of Planned planned right did =
         let m = moved did in
         record { before = s.sequence.history; begins = subst (IsPrefix v.front) m.front m.steps.extends; right = right; did = m }
-    crew_of StillGood right did =
+    crew_of StillGood planned right did =
         let m = stayed did in
         record { before = s.sequence.history; begins = subst (IsPrefix v.front) m.front m.steps.extends; right = right; did = m }
-    crew_of (Unrecoverable live) right did =
-        let m = gave_up (act.Unrecoverable live) did in record { before = s.sequence.history; begins = m.ends.begins; right = right; did = m }
-    crew_of (TargetDown node) right did = absurd did
-    crew_of Unsteady right did =
-        let m = gave_up (act.Unsteady new.voids.at) did in record { before = s.sequence.history; begins = m.ends.begins; right = right; did = m }
+    crew_of (Unrecoverable live) planned right did =
+        let m = gave_up (act.Unrecoverable live) planned did in record { before = s.sequence.history; begins = m.ends.begins; right = right; did = m }
+    crew_of (TargetDown node) planned right did = absurd did
+    crew_of Unsteady planned right did =
+        let m = gave_up (act.Unsteady new.voids.at) planned did in record { before = s.sequence.history; begins = m.ends.begins; right = right; did = m }

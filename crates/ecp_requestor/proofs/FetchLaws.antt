@@ -67,6 +67,7 @@ module _ (shape : Shape) (told : Bool) where
           front = e.front ∙ ap (λ (h : ℕ). before ++ item h by ∷ []) s.hand ∙ ap (λ (x : Entry). before ++ item u.hand x ∷ []) is;
           legal = e.legal;
           calls = e.calls ∙ same.0;
+          stays = e.stays;
         },
       )
 

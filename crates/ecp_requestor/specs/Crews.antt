@@ -14,7 +14,7 @@ use Rattle.ecp_plan.specs.declared.plan.Plan.{Plan}
 use Rattle.ecp_sequencer.specs.Facts.{facts_of}
 use Rattle.ecp_sequencer.specs.Passes.{PassState}
 use Rattle.ecp_sequencer.specs.Steps.{Steps}
-use Rattle.ecp_coord.specs.Calls.{IsOpen, closing}
+use Rattle.ecp_coord.specs.Calls.{IsOpen, StaysOpen, closing}
 use Rattle.ecp_coord.specs.Plans.{IsPlanned, Moves, found_by_replanning}
 use Rattle.ecp_coord.specs.declared.replanned.Replanned.{Replanned}
 use Rattle.ecp_coord.specs.declared.replanned.Replanned.TheVariants.{Planned, StillGood, Unrecoverable, TargetDown, Unsteady}
@@ -24,7 +24,7 @@ abbrev pub SameCall : PassState → PassState → Type 0
 SameCall v w = (w.calls ≡ v.calls) × ((facts_of w.notes).call ≡ (facts_of v.notes).call)
 
 -- This part of the open call of a pass ended with this act: the history, which the pass's front begins and which is that long, grew by the
--- one entry that says so, and the pass's new front is the whole of it
+-- one entry that says so, and the pass's new front is the whole of it. A call is open after its part, with room for a part more and its end
 pub record EndedAt (shape : Shape) (told : Bool) (before : Log) (v : PassState) (at : Part) (what : Act) (w : PassState) : Type 0 where
   pub asked : Deed
   pub is_open : IsOpen v asked
@@ -34,6 +34,7 @@ pub record EndedAt (shape : Shape) (told : Bool) (before : Log) (v : PassState) 
   pub front : w.front ≡ before ++ item v.hand (closing v asked at (length before) what []) ∷ []
   pub legal : TellsLegal shape told w.front
   pub calls : w.calls ≡ v.calls
+  pub stays : StaysOpen at 2 asked w
 
 -- the plan is the one of now for the same block, of the next attempt. It has the position that voided the attempt before it
 pub record MovesOn (shape : Shape) (told : Bool) (before : Log) (v : PassState) {N : Type 0} (old new : Plan N) (w : PassState) : Type 0 where

@@ -9,16 +9,16 @@ ghost use Rattle.ecp_sequencer.specs.Passes.{PassState};
 ghost use Rattle.ecp_sequencer.specs.Steps.{Steps};
 ghost use Rattle.ecp_coord.specs.declared.replanned.Replanned.{Replanned};
 ghost use Rattle.ecp_coord.specs.Coords.{CoordState};
-ghost use Rattle.ecp_coord.specs.Plans.{Did, found_by_replanning};
+ghost use Rattle.ecp_coord.specs.Plans.{Did, IsPlanned, found_by_replanning};
 ghost use Rattle.ecp_requestor.specs.Crews.{Replans};
 ghost use Rattle.ecp_requestor.specs.Fetching.{GoesOn};
 
 use ecp_book::Names;
 
-/// The coordinator's event is what a crew promises: so a crew may have a coordinator behind a lock.
+/// The coordinator's event, for a plan of the pass, is what a crew promises: so a crew may have a coordinator behind a lock.
 pub fn the_coordinators_event_is_a_crews<N: Names>()
     ensures { (s t : CoordState) (v w : PassState) (old new : Plan N) (answer : Replanned) →
-        answer ≡ found_by_replanning N.shape (history_of s.sequence.history) old →
+        IsPlanned N.shape N.told v old → answer ≡ found_by_replanning N.shape (history_of s.sequence.history) old →
         Did N.shape N.told s v old new t w answer → Replans N.shape N.told v old new w answer }
 {}
 

@@ -169,19 +169,24 @@ impl<N: Names, S: Store + Drop, G: Gate> Service<N, S, G> {
             bytes: Block::new(block.into_bytes()),
             by_digest: false,
             digest: [0; 32],
+            len: 0,
+            cause: Act::Data,
         }
     }
 
-    // An answer without bytes.
-    fn only(&self, act: Act) -> Answer
+    /// An answer without bytes, digest or file.
+    pub(crate) fn only(&self, act: Act) -> Answer
         ensures act { (result.act ≡ act) × (result.bytes ≡ []) }
         ensures digest { (result.by_digest ≡ false) × (result.digest ≡ no_digest) }
+        ensures file { (result.len ≡ 0) × (result.cause ≡ act) }
     {
         Answer {
             act,
             bytes: Block::new(Vec::new(self.alloc)),
             by_digest: false,
             digest: [0; 32],
+            len: 0,
+            cause: act,
         }
     }
 }

@@ -84,5 +84,7 @@ fn without_bytes(alloc: Global, act: Act) -> Answer
         bytes: Block::new(Vec::new(alloc)),
         by_digest: false,
         digest: [0; 32],
+        len: 0,
+        cause: act,
     }
 }
