@@ -92,7 +92,30 @@ class Table:
         found, act = self.find(name, index)
         return (f"sum {hashlib.sha256(found).hexdigest()}" if act == "data" else found), act
 
+    def cat(self, name):
+        """The reply, the act of the end, and those of the parts before it."""
+        if name not in self.files:
+            return "no-file", "no-file", []
+        length, first = self.files[name]
+        count = -(-length // self.block)
+        acts, whole = [f"opened {length} {count} {first}"], b""
+        for index in range(count):
+            found, act = self.find(name, index)
+            acts.append(act)
+            if act != "data":
+                return f"broken {index} {act}", f"broken {index}", acts
+            whole += found
+        return f"file {length} {hashlib.sha256(whole[:length]).hexdigest()}", "whole", acts
+
     def serve(self, words):
+        """The reply, the act of the end, and those of the parts before it."""
+        match words:
+            case "cat", name:
+                return self.cat(name)
+            case _:
+                return *self.serve_at_once(words), []
+
+    def serve_at_once(self, words):
         match words:
             case "put", name, "hex", digits:
                 return self.put(name, b"" if digits == "-" else bytes.fromhex(digits))
@@ -117,11 +140,15 @@ def main():
             served.append((session, *table.serve(line.split(" "))))
     if served:
         print(f"session {served[0][0]}")
-    for _, reply, _ in served:
+    for _, reply, _, _ in served:
         print(reply)
-    print(f"journal {len(served)}")
-    for at, (caller, _, act) in enumerate(served):
-        print(f"{at} s{caller} {at} end {at} {act}")
+    journal = []
+    for call, (caller, _, act, parts) in enumerate(served):
+        journal += [f"s{caller} {call} {part} {len(journal) + part} {said}" for part, said in enumerate(parts)]
+        journal.append(f"s{caller} {call} end {len(journal)} {act}")
+    print(f"journal {len(journal)}")
+    for at, line in enumerate(journal):
+        print(f"{at} {line}")
     print("end")
 
 

@@ -83,7 +83,7 @@ def content(draw, size, contents):
 KINDS = {"put": 6, "read": 4, "sum": 3, "cat": 4, "lose": 3, "join": 3, "rebuild": 4, "stat": 2}
 
 # Those forms that the program serves.
-SERVED = {kind: often for kind, often in KINDS.items() if kind not in ("cat", "rebuild")}
+SERVED = {kind: often for kind, often in KINDS.items() if kind != "rebuild"}
 
 
 def call(draw, size, nodes, kinds, contents):

@@ -7,6 +7,7 @@ pub mod Keyed
 pub mod OneForm
 pub mod Recipes
 pub mod Scripts
+pub mod Sizing
 pub mod Spelled
 pub mod Spending
 pub mod Tops

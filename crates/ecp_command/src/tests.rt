@@ -226,7 +226,11 @@ fn refuses_a_line_without_a_form(rt: HostRuntime) -> Result<(), Fail> {
         "session barrier",
         "Barrier",
         "rebuild 0 1",
-        "cat a",
+        "cat",
+        "cat ",
+        "cat a 0",
+        "cat a/b",
+        "cats a",
         "sum a",
         "sum a 01",
         "sum a 4294967296",
@@ -276,6 +280,20 @@ fn keeps_each_limit_and_refuses_one_past_it(rt: HostRuntime) -> Result<(), Fail>
             "past {most}"
         );
     }
+    Ok(())
+}
+
+#[test]
+fn a_file_that_is_read_whole_costs_its_most_blocks(rt: HostRuntime) -> Result<(), Fail> {
+    let alloc = rt.alloc();
+    let head = sizes(alloc, "15", "16", "16", "1")?;
+    let puts = format!(in alloc; "{head}---\nput a gen 0 1\nput a gen 0 61440\nput a gen 0 1\n")?;
+    let at_limit = repeated(alloc, puts.as_str(), "cat a\n", 68)?;
+    assert_eq!(rt; refusal(alloc, at_limit.as_bytes()), None);
+    let past_it = repeated(alloc, at_limit.as_str(), "cat a\n", 1)?;
+    assert_eq!(rt; refusal(alloc, past_it.as_bytes()), Some(Refusal::Line(77)));
+    let of_none = repeated(alloc, puts.as_str(), "cat b\n", 69)?;
+    assert_eq!(rt; refusal(alloc, of_none.as_bytes()), None);
     Ok(())
 }
 
@@ -362,7 +380,7 @@ fn reads_what_is_asked_of_a_file(rt: HostRuntime) -> Result<(), Fail> {
     let alloc = rt.alloc();
     let input = accepted(
         alloc,
-        input(alloc, "sum a.B_-9 4294967295\nstat b\n")?.as_str(),
+        input(alloc, "sum a.B_-9 4294967295\nstat b\ncat c\n")?.as_str(),
     )?;
     let [session] = input.sessions.as_slice() else {
         return Err(Fail::from("one session"));
@@ -376,15 +394,20 @@ fn reads_what_is_asked_of_a_file(rt: HostRuntime) -> Result<(), Fail> {
             call: Call::Stat { name: other },
             ..
         },
+        Planned {
+            call: Call::Cat { name: whole },
+            ..
+        },
     ] = session.calls.as_slice()
     else {
-        return Err(Fail::from("a sum and a stat"));
+        return Err(Fail::from("a sum, a stat and a cat"));
     };
     assert_eq!(rt;
         (name.bytes(), *index),
         (b"a.B_-9".as_slice(), 4_294_967_295)
     );
     assert_eq!(rt; other.bytes(), b"b".as_slice());
+    assert_eq!(rt; whole.bytes(), b"c".as_slice());
     Ok(())
 }
 

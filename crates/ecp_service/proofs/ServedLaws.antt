@@ -91,7 +91,7 @@ module _ (shape : Shape) (told : Bool) where
   of_grows phase v calls [] w served = subst (λ (x : PassState). IsPrefix v.front x.front) (sym served) (prefix_self v.front)
   of_grows phase v [] (a ∷ answers) w served = absurd served
   of_grows phase v (p ∷ calls) (a ∷ answers) w served =
-      prefix_trans v.front served.1.front w.front served.2.answered.called.steps.extends (of_grows phase served.1 calls answers w served.3)
+      prefix_trans v.front served.1.front w.front served.2.called.steps.extends (of_grows phase served.1 calls answers w served.3)
 
   -- ---- the calls of several phases
 
@@ -103,7 +103,7 @@ module _ (shape : Shape) (told : Bool) where
   from_grown fences phase v u (p ∷ calls) (a ∷ answers) w grown begun ended served =
       let t : PassState = served.1 in
       let rest : IsPrefix t.front w.front = of_grows phase t calls answers w served.3 in
-      let first : IsPrefix u.front t.front = served.2.answered.called.steps.extends in (
+      let first : IsPrefix u.front t.front = served.2.called.steps.extends in (
         t,
         record {
           from = u;

@@ -76,9 +76,9 @@ served_run bytes content answers spares callers failed starts lines passes store
             (λ i e here session. fenced e.line.caller (entry_below callers spares s.history ended.closed.kept.made i e here session) session);
         drops = ended.closed.kept.counted;
         stripes = stripes_bounded shape content answers history legal input all sessions
-            (ended.numbers (each_ended shape callers spares content answers lines passes s input all by each ended.closed));
+            (ended.numbers (each_ended shape callers spares content answers lines passes s input by each ended.closed));
       };
-      written = text_is shape content answers history legal input all lines ended.closed.printed sessions;
+      written = text_is shape content answers history legal input lines ended.closed.printed sessions;
     }
 
 -- the entries that tell of failures of a node's store are at most the rise of its count, where that is not at its end

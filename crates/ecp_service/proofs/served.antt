@@ -1,6 +1,7 @@
 -- The proofs that a run over nodes is a run of a plain table.
 pub mod Lists
 pub mod Kept
+pub mod Parts
 pub mod Fronts
 pub mod Passes
 pub mod Callers

@@ -3,22 +3,18 @@ use Rattle.std.specs.Prelude.{ℕ, ◌+◌, List, [], ◌++◌, length, take, fl
 use Rattle.std.specs.List.{enumerate_from, range_with_len}
 use Rattle.std.specs.Option.{option_map_or}
 use Rattle.sha2.specs.Sha256.{sha256}
+use Rattle.ecp_cluster.specs.Whole.{opened_bytes}
 use Rattle.ecp_command.specs.Input.Accepted.{Content}
 use Rattle.ecp_command.specs.Input.Calls.{SessionCalls}
 use Rattle.ecp_command.specs.declared.input.planned.Planned.{Planned}
 use Rattle.ecp_entry.specs.declared.act.Act.{Act}
-use Rattle.ecp_entry.specs.declared.act.Act.TheVariants.{Opened, Whole, Broken}
+use Rattle.ecp_entry.specs.declared.act.Act.TheVariants.{Whole, Broken}
 use Rattle.ecp_entry.specs.declared.entry.Entry.{Entry}
 use Rattle.ecp_entry.specs.JournalText.{journal_line}
 use Rattle.ecp_entry.specs.ReplyText.{reply_of, reply_line}
 use Rattle.ecp_service.specs.Asked.{deed_of}
 use Rattle.ecp_history.specs.Spans.{ends, is_part}
 use Rattle.ecp_service.specs.Serves.{opened_blocks}
-
--- the length of the file that an act opens
-abbrev pub opened_bytes : Act → ℕ
-opened_bytes (Opened len count first) = len
-opened_bytes _ = 0
 
 -- the length of the file that a call opened in its part 0
 abbrev pub opened_len : List Entry → ℕ → ℕ → ℕ

@@ -18,10 +18,10 @@ abbrev pub IsServable : Call → Type 0
 IsServable (Put name bytes) = IsShortName name × (length bytes ≤ MAX_PUT_BYTES)
 IsServable (Read name index) = IsShortName name
 IsServable (Sum name index) = IsShortName name
+IsServable (Cat name) = IsShortName name
 IsServable (Lose node) = Unit {0}
 IsServable (Join node) = Unit {0}
 IsServable (Stat name) = IsShortName name
-IsServable (Cat name) = ⊥
 IsServable (Rebuild from to) = ⊥
 
 -- each of these calls is

@@ -2,10 +2,11 @@
 use Rattle.std.specs.Prelude.{◌≡◌, ℕ, ◌+◌, ◌<◌, nat_lt, true, if◌then◌else◌, List, map, count_by, find, slice_get, Some, IsSomeAnd, Contains}
 use Rattle.std.specs.List.{enumerate_from, flat_map}
 use Rattle.std.specs.Option.{option_map_or}
+use Rattle.ecp_cluster.specs.Whole.{opened_count}
 use Rattle.ecp_command.specs.Input.Accepted.{Content}
 use Rattle.ecp_command.specs.declared.input.planned.Planned.{Planned}
 use Rattle.ecp_entry.specs.declared.act.Act.{Act}
-use Rattle.ecp_entry.specs.declared.act.Act.TheVariants.{Whole, Broken, Opened, Rebuilt}
+use Rattle.ecp_entry.specs.declared.act.Act.TheVariants.{Whole, Broken, Rebuilt}
 use Rattle.ecp_entry.specs.declared.entry.Entry.{Entry}
 use Rattle.ecp_history.specs.Counted.{DropsCounted}
 use Rattle.ecp_history.specs.Files.{is_stored, Storing, StripesBounded}
@@ -23,11 +24,6 @@ pub record IsOfCall (e : Entry) (planned : Planned) : Type 0 where
 abbrev pub NamesCalls : Content → List Entry → Type 0
 NamesCalls input history =
     (i : ℕ) (e : Entry) → slice_get history i ≡ Some e → e.line.caller < MAX_SESSIONS → IsSomeAnd (call_at input e.line.caller e.line.call) (IsOfCall e)
-
--- how many blocks an act says that the file has which it opens
-abbrev pub opened_count : Act → ℕ
-opened_count (Opened len count first) = count
-opened_count _ = 0
 
 -- how many blocks the file has that a call opened in its part 0
 abbrev pub opened_blocks : List Entry → ℕ → ℕ → ℕ

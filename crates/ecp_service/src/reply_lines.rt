@@ -88,3 +88,15 @@ pub(crate) fn write_sum<W: Sink>(
 {
     write_with_hex(buffer, out, &Reply::Sum, digest)
 }
+
+/// Writes the reply line that answers the length of a file, and its digest.
+pub(crate) fn write_file<W: Sink>(
+    buffer: &mut Buffer,
+    out: &mut W,
+    len: u32,
+    digest: &[u8; 32],
+) -> Result<(), Failed>
+    ensures { Writes W.Sink result (out.old, buffer.old) (out.new, buffer.new) (reply_line (reply.File len) [] digest.now) }
+{
+    write_with_hex(buffer, out, &Reply::File { len }, digest)
+}

@@ -24,7 +24,7 @@ head_refuses input parts (Line n) split h = absurd h
 head_refuses input parts NoMemory split h = tt
 
 -- and so does the second
-pub cost_refuses : (input : List ℕ) (parts : Parts) (head : Head) (script : Script) (n : ℕ) → ArePartsOf input parts → GivesHead parts.head head → HasRead head parts.script script → IsOver script.forms.items n → RefusesLine input n
+pub cost_refuses : (input : List ℕ) (parts : Parts) (head : Head) (script : Script) (n : ℕ) → ArePartsOf input parts → GivesHead parts.head head → HasRead head parts.script script → IsOver head script.forms.items n → RefusesLine input n
 cost_refuses input parts head script n split gives read over = record {
   script = parts.script;
   settings = head;

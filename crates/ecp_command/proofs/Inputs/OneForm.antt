@@ -7,7 +7,7 @@ use Rattle.ecp_command.specs.declared.input.form.Form.TheVariants as form
 use Rattle.ecp_command.specs.Input.Forms.{GiveBytes, Spells}
 use Rattle.ecp_command.proofs.Decimals.{same_number}
 use Rattle.ecp_command.proofs.Inputs.Recipes.{one_bytes}
-use Rattle.ecp_command.proofs.Inputs.Spelled.{same_cut, clear_name, session_is, barrier_is, put_is, read_is, sum_is, lose_is, join_is, stat_is}
+use Rattle.ecp_command.proofs.Inputs.Spelled.{same_cut, clear_name, session_is, barrier_is, put_is, read_is, sum_is, cat_is, lose_is, join_is, stat_is}
 
 at : (line other : List ℕ) (g : Form) → line ≡ other → Spells line g → Spells other g
 at line other g e h = subst (λ (l : List ℕ). Spells l g) e h
@@ -39,6 +39,9 @@ one_form line (form.Call (Sum name index)) g h k =
     let same = same_cut 32 name p.name (decimal index) (decimal p.index) (clear_name name h.0) (clear_name p.name p.is_name) p.whole in
     let e : index ≡ p.index = same_number index p.index h.1 p.fits same.1 in
     ap (λ (x : List ℕ). form.Call (Sum x index)) same.0 ∙ ap (λ (i : ℕ). form.Call (Sum p.name i)) e ∙ sym p.form_is
+one_form line (form.Call (Cat name)) g h k =
+    let p = cat_is name g (at line (codes "cat " ++ name) g h.1 k) in
+    ap (λ (x : List ℕ). form.Call (Cat x)) p.2 ∙ sym p.3
 one_form line (form.Call (Stat name)) g h k =
     let p = stat_is name g (at line (codes "stat " ++ name) g h.1 k) in
     ap (λ (x : List ℕ). form.Call (Stat x)) p.2 ∙ sym p.3
@@ -50,5 +53,4 @@ one_form line (form.Call (Join node)) g h k =
     let p = join_is (decimal node) g (at line (codes "join " ++ decimal node) g h.1 k) in
     let e : node ≡ p.0 = same_number node p.0 h.0 p.1 p.2 in
     ap (λ (n : ℕ). form.Call (Join n)) e ∙ sym p.3
-one_form line (form.Call (Cat name)) g h k = absurd h
 one_form line (form.Call (Rebuild from to)) g h k = absurd h

@@ -65,7 +65,7 @@ session_is rest (form.Call (Sum name index)) h = absurd (goes_on_other _ _ h.2 r
 session_is rest (form.Call (Lose node)) h = absurd (begins_other _ _ h.1 refl)
 session_is rest (form.Call (Join node)) h = absurd (begins_other _ _ h.1 refl)
 session_is rest (form.Call (Stat name)) h = absurd (goes_on_other _ _ h.1 refl)
-session_is rest (form.Call (Cat name)) h = absurd h
+session_is rest (form.Call (Cat name)) h = absurd (begins_other _ _ h.1 refl)
 session_is rest (form.Call (Rebuild from to)) h = absurd h
 
 -- the parts of a put, behind its word
@@ -95,7 +95,7 @@ put_is rest (form.Call (Sum name index)) h = absurd (begins_other _ _ h.2 refl)
 put_is rest (form.Call (Lose node)) h = absurd (begins_other _ _ h.1 refl)
 put_is rest (form.Call (Join node)) h = absurd (begins_other _ _ h.1 refl)
 put_is rest (form.Call (Stat name)) h = absurd (begins_other _ _ h.1 refl)
-put_is rest (form.Call (Cat name)) h = absurd h
+put_is rest (form.Call (Cat name)) h = absurd (begins_other _ _ h.1 refl)
 put_is rest (form.Call (Rebuild from to)) h = absurd h
 
 -- the parts of a line that names a block, behind its word
@@ -123,7 +123,7 @@ read_is rest (form.Call (Sum name index)) h = absurd (begins_other _ _ h.2 refl)
 read_is rest (form.Call (Lose node)) h = absurd (begins_other _ _ h.1 refl)
 read_is rest (form.Call (Join node)) h = absurd (begins_other _ _ h.1 refl)
 read_is rest (form.Call (Stat name)) h = absurd (begins_other _ _ h.1 refl)
-read_is rest (form.Call (Cat name)) h = absurd h
+read_is rest (form.Call (Cat name)) h = absurd (begins_other _ _ h.1 refl)
 read_is rest (form.Call (Rebuild from to)) h = absurd h
 
 pub sum_is : (rest : List ℕ) (f : Form) → Spells (codes "sum " ++ rest) f → IsOfBlock Sum rest f
@@ -142,7 +142,7 @@ sum_is rest (form.Call (Sum name index)) h = record {
 sum_is rest (form.Call (Lose node)) h = absurd (begins_other _ _ h.1 refl)
 sum_is rest (form.Call (Join node)) h = absurd (begins_other _ _ h.1 refl)
 sum_is rest (form.Call (Stat name)) h = absurd (goes_on_other _ _ h.1 refl)
-sum_is rest (form.Call (Cat name)) h = absurd h
+sum_is rest (form.Call (Cat name)) h = absurd (begins_other _ _ h.1 refl)
 sum_is rest (form.Call (Rebuild from to)) h = absurd h
 
 pub barrier_is : (f : Form) → Spells (codes "barrier") f → f ≡ form.Barrier
@@ -154,8 +154,20 @@ barrier_is (form.Call (Sum name index)) h = absurd (begins_other _ _ h.2 refl)
 barrier_is (form.Call (Lose node)) h = absurd (begins_other _ _ h.1 refl)
 barrier_is (form.Call (Join node)) h = absurd (begins_other _ _ h.1 refl)
 barrier_is (form.Call (Stat name)) h = absurd (begins_other _ _ h.1 refl)
-barrier_is (form.Call (Cat name)) h = absurd h
+barrier_is (form.Call (Cat name)) h = absurd (begins_other _ _ h.1 refl)
 barrier_is (form.Call (Rebuild from to)) h = absurd h
+
+pub cat_is : (rest : List ℕ) (f : Form) → Spells (codes "cat " ++ rest) f → (name : List ℕ) × IsName name × (rest ≡ name) × (f ≡ form.Call (Cat name))
+cat_is rest (form.Session n) h = absurd (begins_other _ _ h.1 refl)
+cat_is rest form.Barrier h = absurd (begins_other _ _ h refl)
+cat_is rest (form.Call (Put name bytes)) h = absurd (begins_other _ _ h.3 refl)
+cat_is rest (form.Call (Read name index)) h = absurd (begins_other _ _ h.2 refl)
+cat_is rest (form.Call (Sum name index)) h = absurd (begins_other _ _ h.2 refl)
+cat_is rest (form.Call (Cat name)) h = (name, h.0, append_cancel_left (codes "cat ") rest name h.1, refl)
+cat_is rest (form.Call (Lose node)) h = absurd (begins_other _ _ h.1 refl)
+cat_is rest (form.Call (Join node)) h = absurd (begins_other _ _ h.1 refl)
+cat_is rest (form.Call (Stat name)) h = absurd (begins_other _ _ h.1 refl)
+cat_is rest (form.Call (Rebuild from to)) h = absurd h
 
 pub lose_is : (rest : List ℕ) (f : Form) → Spells (codes "lose " ++ rest) f → (n : ℕ) × (n < 2 ^ 32) × (rest ≡ decimal n) × (f ≡ form.Call (Lose n))
 lose_is rest (form.Session n) h = absurd (begins_other _ _ h.1 refl)
@@ -166,7 +178,7 @@ lose_is rest (form.Call (Sum name index)) h = absurd (begins_other _ _ h.2 refl)
 lose_is rest (form.Call (Lose node)) h = (node, h.0, append_cancel_left (codes "lose ") rest (decimal node) h.1, refl)
 lose_is rest (form.Call (Join node)) h = absurd (begins_other _ _ h.1 refl)
 lose_is rest (form.Call (Stat name)) h = absurd (begins_other _ _ h.1 refl)
-lose_is rest (form.Call (Cat name)) h = absurd h
+lose_is rest (form.Call (Cat name)) h = absurd (begins_other _ _ h.1 refl)
 lose_is rest (form.Call (Rebuild from to)) h = absurd h
 
 pub join_is : (rest : List ℕ) (f : Form) → Spells (codes "join " ++ rest) f → (n : ℕ) × (n < 2 ^ 32) × (rest ≡ decimal n) × (f ≡ form.Call (Join n))
@@ -178,7 +190,7 @@ join_is rest (form.Call (Sum name index)) h = absurd (begins_other _ _ h.2 refl)
 join_is rest (form.Call (Lose node)) h = absurd (begins_other _ _ h.1 refl)
 join_is rest (form.Call (Join node)) h = (node, h.0, append_cancel_left (codes "join ") rest (decimal node) h.1, refl)
 join_is rest (form.Call (Stat name)) h = absurd (begins_other _ _ h.1 refl)
-join_is rest (form.Call (Cat name)) h = absurd h
+join_is rest (form.Call (Cat name)) h = absurd (begins_other _ _ h.1 refl)
 join_is rest (form.Call (Rebuild from to)) h = absurd h
 
 pub stat_is : (rest : List ℕ) (f : Form) → Spells (codes "stat " ++ rest) f → (name : List ℕ) × IsName name × (rest ≡ name) × (f ≡ form.Call (Stat name))
@@ -190,7 +202,7 @@ stat_is rest (form.Call (Sum name index)) h = absurd (goes_on_other _ _ h.2 refl
 stat_is rest (form.Call (Lose node)) h = absurd (begins_other _ _ h.1 refl)
 stat_is rest (form.Call (Join node)) h = absurd (begins_other _ _ h.1 refl)
 stat_is rest (form.Call (Stat name)) h = (name, h.0, append_cancel_left (codes "stat ") rest name h.1, refl)
-stat_is rest (form.Call (Cat name)) h = absurd h
+stat_is rest (form.Call (Cat name)) h = absurd (begins_other _ _ h.1 refl)
 stat_is rest (form.Call (Rebuild from to)) h = absurd h
 
 -- ---- the word of a line
@@ -199,21 +211,21 @@ stat_is rest (form.Call (Rebuild from to)) h = absurd h
 pub behind : (line word rest w tail : List ℕ) → IsCut 32 line word rest → IsClear 32 w → line ≡ w ++ 32 ∷ tail → word ≡ w
 behind line word rest w tail c clear e = (same_cut 32 word w rest tail c.clear clear (sym c.whole ∙ e)).0
 
-pub no_word : (line word rest : List ℕ) → IsCut 32 line word rest → word ≢ codes "session" → word ≢ codes "put" → word ≢ codes "read" → word ≢ codes "sum" → word ≢ codes "lose" → word ≢ codes "join"
+pub no_word : (line word rest : List ℕ) → IsCut 32 line word rest → word ≢ codes "session" → word ≢ codes "put" → word ≢ codes "read" → word ≢ codes "sum" → word ≢ codes "cat" → word ≢ codes "lose" → word ≢ codes "join"
     → word ≢ codes "stat" → (f : Form) → Spells line f → ⊥
-no_word line word rest c s p r m l j t (form.Session n) h = s (behind line word rest (codes "session") (decimal n) c (clear_word (codes "session") refl) h.1)
-no_word line word rest c s p r m l j t form.Barrier h = not_clear 32 word rest (subst (λ (w : List ℕ). IsClear 32 w) (sym h ∙ c.whole) (clear_word (codes "barrier") refl))
-no_word line word rest c s p r m l j t (form.Call (Put name bytes)) h =
+no_word line word rest c s p r m a l j t (form.Session n) h = s (behind line word rest (codes "session") (decimal n) c (clear_word (codes "session") refl) h.1)
+no_word line word rest c s p r m a l j t form.Barrier h = not_clear 32 word rest (subst (λ (w : List ℕ). IsClear 32 w) (sym h ∙ c.whole) (clear_word (codes "barrier") refl))
+no_word line word rest c s p r m a l j t (form.Call (Put name bytes)) h =
     p (behind line word rest (codes "put") (name ++ (codes " " ++ h.1)) c (clear_word (codes "put") refl) (h.3 ∙ append_assoc (codes "put " ++ name) (codes " ") h.1 ∙ append_assoc (codes "put ") name (codes " " ++ h.1)))
-no_word line word rest c s p r m l j t (form.Call (Read name index)) h =
+no_word line word rest c s p r m a l j t (form.Call (Read name index)) h =
     r (behind line word rest (codes "read") (name ++ (codes " " ++ decimal index)) c (clear_word (codes "read") refl) (h.2 ∙ append_assoc (codes "read " ++ name) (codes " ") (decimal index) ∙ append_assoc (codes "read ") name (codes " " ++ decimal index)))
-no_word line word rest c s p r m l j t (form.Call (Sum name index)) h =
+no_word line word rest c s p r m a l j t (form.Call (Sum name index)) h =
     m (behind line word rest (codes "sum") (name ++ (codes " " ++ decimal index)) c (clear_word (codes "sum") refl) (h.2 ∙ append_assoc (codes "sum " ++ name) (codes " ") (decimal index) ∙ append_assoc (codes "sum ") name (codes " " ++ decimal index)))
-no_word line word rest c s p r m l j t (form.Call (Lose node)) h = l (behind line word rest (codes "lose") (decimal node) c (clear_word (codes "lose") refl) h.1)
-no_word line word rest c s p r m l j t (form.Call (Join node)) h = j (behind line word rest (codes "join") (decimal node) c (clear_word (codes "join") refl) h.1)
-no_word line word rest c s p r m l j t (form.Call (Stat name)) h = t (behind line word rest (codes "stat") name c (clear_word (codes "stat") refl) h.1)
-no_word line word rest c s p r m l j t (form.Call (Cat name)) h = h
-no_word line word rest c s p r m l j t (form.Call (Rebuild from to)) h = h
+no_word line word rest c s p r m a l j t (form.Call (Cat name)) h = a (behind line word rest (codes "cat") name c (clear_word (codes "cat") refl) h.1)
+no_word line word rest c s p r m a l j t (form.Call (Lose node)) h = l (behind line word rest (codes "lose") (decimal node) c (clear_word (codes "lose") refl) h.1)
+no_word line word rest c s p r m a l j t (form.Call (Join node)) h = j (behind line word rest (codes "join") (decimal node) c (clear_word (codes "join") refl) h.1)
+no_word line word rest c s p r m a l j t (form.Call (Stat name)) h = t (behind line word rest (codes "stat") name c (clear_word (codes "stat") refl) h.1)
+no_word line word rest c s p r m a l j t (form.Call (Rebuild from to)) h = h
 
 -- ---- the parts of a put, and of words that name a block, where these are cut
 

@@ -13,7 +13,7 @@ use Rattle.ecp_command.specs.declared.input.refusal.Refusal.TheVariants.{NotToml
 use Rattle.ecp_command.specs.Input.Accepted.{Content, HasHead, HasForms, IsAccepted, RefusesForm, RefusesCost, RefusesLine, RefusesHead, HasNoDocument, MayRefuse}
 use Rattle.ecp_command.specs.Input.Calls.{SessionCalls, sessions_of, phases_of}
 use Rattle.ecp_command.specs.Input.Forms.{Spells, SpellEach}
-use Rattle.ecp_command.specs.Input.Limits.{KeepLimits, put_len, put_stripes, is_read, cost}
+use Rattle.ecp_command.specs.Input.Limits.{KeepLimits, put_len, put_stripes, is_read, cost, costs}
 use Rattle.ecp_command.specs.Input.Lines.{rule, text_of, numbered, Parts, ArePartsOf, HasNoRule}
 use Rattle.ecp_command.specs.Input.Settings.{IsDocument, head_of}
 use Rattle.ecp_command.proofs.Inputs.OneForm.{one_form}
@@ -114,18 +114,18 @@ no_form head script number forms h r =
 
 -- ---- sums of costs
 
-sum_take : (fs : List Form) (k : ℕ) → sum_by cost (take k fs) ≤ sum_by cost fs
-sum_take fs k = subst (λ (gs : List Form). sum_by cost (take k fs) ≤ sum_by cost gs) (take-append-drop k fs) (sum_front cost (take k fs) (drop k fs))
+sum_take : (price : Form → ℕ) (fs : List Form) (k : ℕ) → sum_by price (take k fs) ≤ sum_by price fs
+sum_take price fs k = subst (λ (gs : List Form). sum_by price (take k fs) ≤ sum_by price gs) (take-append-drop k fs) (sum_front price (take k fs) (drop k fs))
 
-sum_take_more : (fs : List Form) (i j : ℕ) → i ≤ j → sum_by cost (take i fs) ≤ sum_by cost (take j fs)
-sum_take_more fs i j le = subst (λ (gs : List Form). sum_by cost gs ≤ sum_by cost (take j fs)) (take-take i j fs le) (sum_take (take j fs) i)
+sum_take_more : (price : Form → ℕ) (fs : List Form) (i j : ℕ) → i ≤ j → sum_by price (take i fs) ≤ sum_by price (take j fs)
+sum_take_more price fs i j le = subst (λ (gs : List Form). sum_by price gs ≤ sum_by price (take j fs)) (take-take i j fs le) (sum_take price (take j fs) i)
 
 -- a script within the costs has no line over them
-no_cost : (head : Head) (script : List (ℕ × List ℕ)) (number : ℕ) (forms : List Form) → HasForms head script forms → sum_by cost forms ≤ MAX_ENTRIES → RefusesCost head script number → ⊥
+no_cost : (head : Head) (script : List (ℕ × List ℕ)) (number : ℕ) (forms : List Form) → HasForms head script forms → costs head forms forms ≤ MAX_ENTRIES → RefusesCost head script number → ⊥
 no_cost head script number forms h cheap r =
     let e : r.forms ≡ forms = same_forms script r.forms forms r.has_forms.spelled h.spelled in
-    let total : sum_by cost r.forms ≤ MAX_ENTRIES = subst (λ (fs : List Form). sum_by cost fs ≤ MAX_ENTRIES) (sym e) cheap in
-    let part = sum_take r.forms (length r.before + 1) in
+    let total : costs head r.forms r.forms ≤ MAX_ENTRIES = subst (λ (fs : List Form). costs head fs fs ≤ MAX_ENTRIES) (sym e) cheap in
+    let part = sum_take (cost head r.forms) r.forms (length r.before + 1) in
     omega (arith, total, part, r.dear)
 
 -- ---- the first line that is refused
@@ -159,8 +159,8 @@ same_form_line head script n m r s =
 longer : {X : Type 0} (a c : List X) (x : X) (mid : List X) → c ≡ a ++ x ∷ mid → length a + 1 ≤ length c
 longer a c x mid e = omega (arith, ap length e, length-append a (x ∷ mid))
 
-over_twice : (fs : List Form) (i j : ℕ) → i + 1 ≤ j → MAX_ENTRIES < sum_by cost (take (i + 1) fs) → sum_by cost (take j fs) ≤ MAX_ENTRIES → ⊥
-over_twice fs i j le dear cheap = let more = sum_take_more fs (i + 1) j le in omega (arith, more, dear, cheap)
+over_twice : (price : Form → ℕ) (fs : List Form) (i j : ℕ) → i + 1 ≤ j → MAX_ENTRIES < sum_by price (take (i + 1) fs) → sum_by price (take j fs) ≤ MAX_ENTRIES → ⊥
+over_twice price fs i j le dear cheap = let more = sum_take_more price fs (i + 1) j le in omega (arith, more, dear, cheap)
 
 same_cost_line : (head : Head) (script : List (ℕ × List ℕ)) (n m : ℕ) → RefusesCost head script n → RefusesCost head script m → n ≡ m
 same_cost_line head script n m r s =
@@ -168,9 +168,9 @@ same_cost_line head script n m r s =
     elim (order r.before (n, r.line) r.after s.before (m, s.line) s.after (sym r.whole ∙ s.whole)) [
       | inl p ↦ elim p [
         | inl q ↦ ap (λ (l : ℕ × List ℕ). l.0) q.1
-        | inr q ↦ absurd (over_twice r.forms (length r.before) (length s.before) (longer r.before s.before (n, r.line) q.0 q.1) r.dear (subst (λ (fs : List Form). sum_by cost (take (length s.before) fs) ≤ MAX_ENTRIES) (sym e) s.cheap))
+        | inr q ↦ absurd (over_twice (cost head r.forms) r.forms (length r.before) (length s.before) (longer r.before s.before (n, r.line) q.0 q.1) r.dear (subst (λ (fs : List Form). costs head fs (take (length s.before) fs) ≤ MAX_ENTRIES) (sym e) s.cheap))
       ]
-      | inr p ↦ absurd (over_twice s.forms (length s.before) (length r.before) (longer s.before r.before (m, s.line) p.0 p.1) s.dear (subst (λ (fs : List Form). sum_by cost (take (length r.before) fs) ≤ MAX_ENTRIES) e r.cheap))
+      | inr p ↦ absurd (over_twice (cost head s.forms) s.forms (length s.before) (length r.before) (longer s.before r.before (m, s.line) p.0 p.1) s.dear (subst (λ (fs : List Form). costs head fs (take (length r.before) fs) ≤ MAX_ENTRIES) e r.cheap))
     ]
 
 same_line : (head : Head) (script : List (ℕ × List ℕ)) (n m : ℕ) → RefusesForm head script n ⊎ RefusesCost head script n → RefusesForm head script m ⊎ RefusesCost head script m → n ≡ m
@@ -210,7 +210,10 @@ not_line input c n h r =
     let same = same_head input h.script r.script (Ok c.head) (Ok r.settings) h.head r.head in
     let head : c.head ≡ r.settings = head_is c.head r.settings same.1 in
     let forms : HasForms r.settings r.script h.forms = subst (λ (x : Head). HasForms x r.script h.forms) head (subst (λ (ls : List (ℕ × List ℕ)). HasForms c.head ls h.forms) same.0 h.has_forms) in
-    elim r.refused [ inl f ↦ no_form r.settings r.script n h.forms forms f | inr f ↦ no_cost r.settings r.script n h.forms forms h.cheap f ]
+    elim r.refused [
+      | inl f ↦ no_form r.settings r.script n h.forms forms f
+      | inr f ↦ no_cost r.settings r.script n h.forms forms (subst (λ (x : Head). costs x h.forms h.forms ≤ MAX_ENTRIES) head h.cheap) f
+    ]
 
 not_head : (input : List ℕ) (s t : List (ℕ × List ℕ)) (h : Head) (e : Refusal) → HasHead input s (Ok h) → HasHead input t (Err e) → ⊥
 not_head input s t h e a b =

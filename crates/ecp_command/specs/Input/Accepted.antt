@@ -1,5 +1,5 @@
 -- Accepted inputs, and the first refusal of every other.
-use Rattle.std.specs.Prelude.{◌≡◌, ℕ, ◌+◌, ◌<◌, ◌≤◌, ◌⊎◌, List, [], ◌∷◌, ◌++◌, length, map, take, sum_by, Result, Ok, Err}
+use Rattle.std.specs.Prelude.{◌≡◌, ℕ, ◌+◌, ◌<◌, ◌≤◌, ◌⊎◌, List, [], ◌∷◌, ◌++◌, length, map, take, Result, Ok, Err}
 use Rattle.toml.specs.Data.{Members}
 use Rattle.ecp_shape.specs.declared.limits.TheConstants.{MAX_INPUT, MAX_ENTRIES}
 use Rattle.ecp_command.specs.declared.input.form.Form.{Form}
@@ -11,7 +11,7 @@ use Rattle.ecp_command.specs.declared.input.session.Session.{Session}
 use Rattle.ecp_command.specs.Input.Lines.{Parts, ArePartsOf, HasNoRule}
 use Rattle.ecp_command.specs.Input.Settings.{IsDocument, head_of}
 use Rattle.ecp_command.specs.Input.Forms.{Spells, SpellEach}
-use Rattle.ecp_command.specs.Input.Limits.{KeepLimits, cost}
+use Rattle.ecp_command.specs.Input.Limits.{KeepLimits, costs}
 use Rattle.ecp_command.specs.Input.Calls.{SessionCalls, sessions_of, phases_of}
 
 -- what an input asks for, without where it lies in memory
@@ -48,7 +48,7 @@ pub record IsAccepted (input : List ℕ) (content : Content) : Type 0 where
   pub head : HasHead input script (Ok content.head)
   pub forms : List Form
   pub has_forms : HasForms content.head script forms
-  pub cheap : sum_by cost forms ≤ MAX_ENTRIES
+  pub cheap : costs content.head forms forms ≤ MAX_ENTRIES
   pub sessions : content.sessions ≡ sessions_of forms
   pub phases : content.phases ≡ phases_of forms
 
@@ -70,8 +70,8 @@ pub record RefusesCost (head : Head) (script : List (ℕ × List ℕ)) (number :
   pub whole : script ≡ before ++ (number, line) ∷ after
   pub forms : List Form
   pub has_forms : HasForms head script forms
-  pub cheap : sum_by cost (take (length before) forms) ≤ MAX_ENTRIES
-  pub dear : MAX_ENTRIES < sum_by cost (take (length before + 1) forms)
+  pub cheap : costs head forms (take (length before) forms) ≤ MAX_ENTRIES
+  pub dear : MAX_ENTRIES < costs head forms (take (length before + 1) forms)
 
 -- the head is accepted, and this line is the first refused, in the first pass or else in the second
 pub record RefusesLine (input : List ℕ) (number : ℕ) : Type 0 where

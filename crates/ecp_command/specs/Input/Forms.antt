@@ -74,10 +74,10 @@ abbrev pub SpellsCall : List ℕ → Call → Type 0
 SpellsCall line (Put name bytes) = IsName name × (words : List ℕ) × GiveBytes words bytes × (line ≡ codes "put " ++ name ++ codes " " ++ words)
 SpellsCall line (Read name index) = IsName name × (index < 2 ^ 32) × (line ≡ codes "read " ++ name ++ codes " " ++ decimal index)
 SpellsCall line (Sum name index) = IsName name × (index < 2 ^ 32) × (line ≡ codes "sum " ++ name ++ codes " " ++ decimal index)
+SpellsCall line (Cat name) = IsName name × (line ≡ codes "cat " ++ name)
 SpellsCall line (Lose node) = (node < 2 ^ 32) × (line ≡ codes "lose " ++ decimal node)
 SpellsCall line (Join node) = (node < 2 ^ 32) × (line ≡ codes "join " ++ decimal node)
 SpellsCall line (Stat name) = IsName name × (line ≡ codes "stat " ++ name)
-SpellsCall line (Cat name) = ⊥
 SpellsCall line (Rebuild from to) = ⊥
 
 -- the line spells the form

@@ -1,5 +1,5 @@
 -- What a script may ask for.
-use Rattle.std.specs.Prelude.{ℕ, ◌*◌, ◌≤◌, Bool, true, false, List, length, sum_by, count_by}
+use Rattle.std.specs.Prelude.{ℕ, ◌+◌, ◌-◌, ◌*◌, ◌/◌, ◌≤◌, max, Bool, true, false, if◌then◌else◌, List, length, fold, sum_by, count_by, bytes_eq}
 use Rattle.std.specs.List.{AllByRecursion}
 use Rattle.ecp_code.specs.Stripes.{stripe_count}
 use Rattle.ecp_shape.specs.declared.limits.TheConstants.{MAX_LINES, MAX_PUT_BYTES, MAX_PUT_STRIPES, MAX_BYTES, MAX_STRIPES, MAX_STORED, MAX_READ}
@@ -48,15 +48,29 @@ pub record KeepLimits (head : Head) (forms : List Form) : Type 0 where
   pub stored : sum_by (put_stripes head) forms * head.n * head.block ≤ MAX_STORED
   pub reads : count_by is_read forms * head.block ≤ MAX_READ
 
--- what a line costs, of the entries that a history may have
-abbrev pub cost : Form → ℕ
-cost (Session number) = 0
-cost Barrier = 0
-cost (Call (Put name bytes)) = 1
-cost (Call (Read name index)) = 1
-cost (Call (Sum name index)) = 1
-cost (Call (Cat name)) = 1
-cost (Call (Lose node)) = 1
-cost (Call (Join node)) = 1
-cost (Call (Rebuild from to)) = 1
-cost (Call (Stat name)) = 1
+-- how many blocks a file of this name has that the line puts, or 0
+abbrev pub blocks_put : Head → List ℕ → Form → ℕ
+blocks_put head name (Call (Put other bytes)) = if bytes_eq other name then (length bytes + head.block - 1) / head.block else 0
+blocks_put head name _ = 0
+
+-- how many the largest one has
+abbrev pub most_blocks : Head → List Form → List ℕ → ℕ
+most_blocks head forms name = fold (λ most f. max most (blocks_put head name f)) 0 forms
+
+-- What a line of these costs, of the entries that a history may have: a `cat` has an end, a part that opens the file, and one for each block
+-- of the largest file of its name; every other call has an end
+abbrev pub cost : Head → List Form → Form → ℕ
+cost head forms (Session number) = 0
+cost head forms Barrier = 0
+cost head forms (Call (Put name bytes)) = 1
+cost head forms (Call (Read name index)) = 1
+cost head forms (Call (Sum name index)) = 1
+cost head forms (Call (Cat name)) = 2 + most_blocks head forms name
+cost head forms (Call (Lose node)) = 1
+cost head forms (Call (Join node)) = 1
+cost head forms (Call (Rebuild from to)) = 1
+cost head forms (Call (Stat name)) = 1
+
+-- what they cost together
+abbrev pub costs : Head → List Form → List Form → ℕ
+costs head forms some = sum_by (cost head forms) some

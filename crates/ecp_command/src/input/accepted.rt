@@ -29,7 +29,7 @@ pub fn read_input(alloc: Global, bytes: &[u8]) -> Result<Input, Refusal>
     };
     let head = read_head(alloc, parts.head)?;
     let script = Script::read(alloc, &head, parts.script, parts.first)?;
-    if let Some(line) = line_over(&script.forms) {
+    if let Some(line) = line_over(alloc, &head, &script.forms)? {
         return Err(Refusal::Line(line));
     }
     let schedule = sessions_with_calls(alloc, script.forms)?;

@@ -22,6 +22,8 @@ const READ: &[u8] = b"read";
 
 const SUM: &[u8] = b"sum";
 
+const CAT: &[u8] = b"cat";
+
 const LOSE: &[u8] = b"lose";
 
 const JOIN: &[u8] = b"join";
@@ -47,6 +49,8 @@ pub(crate) fn form_of(alloc: Global, line: &[u8]) -> Result<Option<Form>, NoMemo
         read(alloc, rest)
     } else if word == SUM {
         sum(alloc, rest)
+    } else if word == CAT {
+        cat(alloc, rest)
     } else if word == LOSE {
         Ok(lose(rest))
     } else if word == JOIN {
@@ -133,6 +137,17 @@ fn block_named(alloc: Global, words: &[u8]) -> Result<Option<(Text, u32)>, NoMem
         return Ok(None);
     };
     Ok(Some((Text::new(Vec::from_slice(alloc, name)?), index)))
+}
+
+// `cat NAME`
+fn cat(alloc: Global, rest: &[u8]) -> Result<Option<Form>, NoMemory>
+    ensures { IfOk result (IsFormOf (codes "cat " ++ rest.now)) }
+{
+    if !is_name(rest) {
+        return Ok(None);
+    }
+    let file = Text::new(Vec::from_slice(alloc, rest)?);
+    Ok(Some(Form::Call(Call::Cat { name: file })))
 }
 
 // `lose NODE`

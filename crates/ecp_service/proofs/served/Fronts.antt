@@ -18,7 +18,7 @@ kept_first (y ∷ xs) ys zero x here = here
 kept_first (y ∷ xs) ys (suc i) x here = kept_first xs ys i x here
 
 -- and the last of a list
-at_end : {X : Type 0} (xs : List X) (x : X) → slice_get (xs ++ x ∷ []) (length xs) ≡ Some x
+pub at_end : {X : Type 0} (xs : List X) (x : X) → slice_get (xs ++ x ∷ []) (length xs) ≡ Some x
 at_end [] x = refl
 at_end (y ∷ xs) x = at_end xs x
 

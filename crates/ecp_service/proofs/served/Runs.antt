@@ -19,8 +19,9 @@ use Rattle.ecp_service.specs.Served.{EachServed}
 use Rattle.ecp_shape.specs.declared.limits.TheConstants.{MAX_SESSIONS}
 use Rattle.ecp_shape.specs.declared.shape.Shape.{Shape}
 use Rattle.ecp_service.proofs.served.Callers.{just_noted}
-use Rattle.ecp_service.proofs.served.Entries.{HasCaller, HasCallers, HasFenced}
+use Rattle.ecp_service.proofs.served.Entries.{HasCaller, HasFenced}
 use Rattle.ecp_service.proofs.served.Inputs.{IsInput}
+use Rattle.ecp_service.proofs.served.Parts.{all_entries}
 use Rattle.ecp_service.proofs.served.Passes.{Went, went}
 use Rattle.ecp_service.proofs.served.Stripes.{has_ended}
 
@@ -43,25 +44,25 @@ one_caller shape callers spares content answers lines passes s each closed c bel
     let w : PassState = slice_index_or passes c v in
     let gone : Went each.fences s.history v (calls_in content c) (answers c) w = its_way shape callers spares content answers lines passes s each closed c below in
     let settled : IsSettled s w = closed.settled c v (omega (arith, below, each.each)) in
-    let noted : entries_noted w.notes ≡ map (item (own_hand spares c)) gone.entries =
-    gone.noted ∙ ap (λ (f : HandFacts). f.entries ++ map (item (own_hand spares c)) gone.entries) facts_of-none in
+    let noted : entries_noted w.notes ≡ map (item (own_hand spares c)) (all_entries gone.groups) =
+    gone.noted ∙ ap (λ (f : HandFacts). f.entries ++ map (item (own_hand spares c)) (all_entries gone.groups)) facts_of-none in
     record {
       has = record {
-        entries = gone.entries;
+        groups = gone.groups;
         replies = gone.replies;
-        just = just_noted callers spares c s w gone.entries below session closed.kept.made settled gone.hand gone.spare noted;
+        just = just_noted callers spares c s w (all_entries gone.groups) below session closed.kept.made settled gone.hand gone.spare noted;
       };
       fenced = gone.fenced;
     }
 
 -- each call that a pass counted has its end
 pub each_ended : (shape : Shape) (callers spares : ℕ) (content : Content) (answers : ℕ → List Answer) (lines : List Line) (passes : List PassState) (s : SequencerState) → IsInput content
-    → HasCallers content answers (history_of s.history) → ((c : ℕ) → c < callers → c < MAX_SESSIONS → HasCaller content answers (history_of s.history) c)
+    → ((c : ℕ) → c < callers → c < MAX_SESSIONS → HasCaller content answers (history_of s.history) c)
     → EachServed shape true spares callers content.sessions answers passes → Closed shape true callers spares s lines passes → AllEnded callers spares (history_of s.history) passes
-each_ended shape callers spares content answers lines passes s input all by each closed c below =
+each_ended shape callers spares content answers lines passes s input by each closed c below =
     let v : PassState = first_pass spares c in
     let w : PassState = slice_index_or passes c v in (
       w,
       Contains-get_or passes c v (omega (arith, below, each.each)),
-      has_ended each.fences s.history spares c content answers (history_of s.history) w input all (its_way shape callers spares content answers lines passes s each closed c below) (by c below),
+      has_ended each.fences s.history spares c content answers (history_of s.history) w input (its_way shape callers spares content answers lines passes s each closed c below) (by c below),
     )

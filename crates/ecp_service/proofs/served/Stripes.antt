@@ -2,9 +2,7 @@
 use Rattle.std.proofs.Common.{◌≡◌, ℕ, zero, suc, ◌+◌, ◌*◌, ◌<◌, ◌≤◌, true, List, [], ◌∷◌, length, map, Option, Some, None, refl, sym, ◌∙◌, ap, subst, arith, inl, inr, le_trans, zero-add, zero-mul}
 use Rattle.std.specs.Prelude.{slice_get, filter, sum_by, flat_map}
 use Rattle.std.proofs.lemmas.Bool.{cases_lt}
-use Rattle.std.proofs.lemmas.List.Folds.{list_any_at}
 use Rattle.std.proofs.lemmas.List.Sums.{sum_by-append, sum_by-cons}
-use Rattle.std.proofs.lemmas.Option.{get_or_from_slice_get, slice_get_within}
 use Rattle.ecp_book.specs.Logs.{Log}
 use Rattle.ecp_cluster.specs.declared.answer.Answer.{Answer}
 use Rattle.ecp_command.specs.Input.Accepted.{Content}
@@ -21,16 +19,16 @@ use Rattle.ecp_history.specs.Calls.{FitsCaller}
 use Rattle.ecp_history.specs.Files.{StripesBelow, StripesBounded, numbers_of}
 use Rattle.ecp_history.specs.Legal.{IsLegal}
 use Rattle.ecp_history.specs.Spans.{ends, losses_in}
-use Rattle.ecp_sequencer.specs.Facts.{is_end}
 use Rattle.ecp_sequencer.specs.Passes.{PassState, first_pass}
 use Rattle.ecp_service.specs.Asked.{calls_in}
 use Rattle.ecp_service.specs.Serves.{puts_of}
-use Rattle.ecp_service.proofs.served.Lists.{got}
+use Rattle.ecp_service.proofs.served.Lists.{any_found, filter_order, got}
 use Rattle.ecp_service.proofs.served.Callers.{is_by}
-use Rattle.ecp_service.proofs.served.Entries.{HasCaller, HasCallers, HasEntry, IsTold, ends_it, has_entry, told_at}
+use Rattle.ecp_service.proofs.served.Entries.{HasCaller, HasCallers, HasEntries, IsTold, has_entries, its_end, told_at}
 use Rattle.ecp_service.proofs.served.Inputs.{IsCall, IsInput}
-use Rattle.ecp_service.proofs.served.Kept.{IsGrouped, of_group, sum_of_groups, sum_of_kept}
-use Rattle.ecp_service.proofs.served.Passes.{Went, storings, storings_are}
+use Rattle.ecp_service.proofs.served.Kept.{IsGrouped, StoodAt, of_group, stood, sum_of_groups}
+use Rattle.ecp_service.proofs.served.Parts.{ended}
+use Rattle.ecp_service.proofs.served.Passes.{Went, just_ends, storings, storings_are}
 
 -- the stripes of a file lie below a higher number too
 below_more : (m more : ℕ) (act : Act) → m ≤ more → StripesBelow m act → StripesBelow more act
@@ -60,48 +58,53 @@ module _ (shape : Shape) (content : Content) (answers : ℕ → List Answer) (hi
   abbrev used : Entry → ℕ
   used e = numbers_of history (storing_of shape e)
 
-  grouped : (i : ℕ) (e : Entry) → slice_get history i ≡ Some e → IsGrouped used caller_of number_of content.sessions e
-  grouped i e here = elim (cases_lt e.line.caller MAX_SESSIONS) [
-    | inl session ↦
-        let told : IsTold content answers history i e = told_at content answers history i e (all i e here session) here in
-        let call : IsCall content e.line.caller told.planned = input.calls e.line.caller e.line.call told.planned told.asked in
-        inr (call.place, call.owner, call.listed, sym call.its)
-    | inr node ↦
-        inl (ap (λ (n : ℕ). n * (losses_in history e.line.caller e.line.call + 1)) (no_stripes shape e.deed e.line.caller (legal i e here).agrees.caller node)
-        ∙ zero-mul (losses_in history e.line.caller e.line.call + 1))
-  ]
+  -- the entries that end calls
+  abbrev last_ones : List Entry
+  last_ones = filter ended history
 
-  -- the entries of a session are of its calls
-  of_session : (i : ℕ) (s : SessionCalls) → slice_get content.sessions i ≡ Some s → of_group used caller_of number_of history s ≡ sum_by (numbers_of history) (storings shape s.number 0 s.calls)
+  grouped : (i : ℕ) (e : Entry) → slice_get last_ones i ≡ Some e → IsGrouped used caller_of number_of content.sessions e
+  grouped i e kept =
+      let place : StoodAt ended history i e = stood ended history i e kept in
+      elim (cases_lt e.line.caller MAX_SESSIONS) [
+        | inl session ↦
+            let told : IsTold content answers history e = told_at content answers history place.at e (all place.at e place.here session) place.here in
+            let call : IsCall content e.line.caller told.planned = input.calls e.line.caller e.line.call told.planned told.asked in
+            inr (call.place, call.owner, call.listed, sym call.its)
+        | inr node ↦
+            inl (ap (λ (n : ℕ). n * (losses_in history e.line.caller e.line.call + 1)) (no_stripes shape e.deed e.line.caller (legal place.at e place.here).agrees.caller node)
+            ∙ zero-mul (losses_in history e.line.caller e.line.call + 1))
+      ]
+
+  -- those of a session end its calls
+  of_session : (i : ℕ) (s : SessionCalls) → slice_get content.sessions i ≡ Some s → of_group used caller_of number_of last_ones s ≡ sum_by (numbers_of history) (storings shape s.number 0 s.calls)
   of_session i s here =
       let has : HasCaller content answers history s.number = each i s here in
-      sym (sum_of_map (numbers_of history) (storing_of shape) (filter (is_by s.number) history))
-      ∙ ap (λ (es : List Entry). sum_by (numbers_of history) (map (storing_of shape) es)) has.just
-      ∙ ap (sum_by (numbers_of history)) (storings_are shape s.number 0 (calls_in content s.number) (answers s.number) has.entries has.replies)
+      sym (sum_of_map (numbers_of history) (storing_of shape) (filter (is_by s.number) last_ones))
+      ∙ ap (λ (es : List Entry). sum_by (numbers_of history) (map (storing_of shape) es))
+      (filter_order (is_by s.number) ended history ∙ ap (filter ended) has.just ∙ just_ends s.number 0 (calls_in content s.number) (answers s.number) has.groups has.replies)
+      ∙ ap (sum_by (numbers_of history)) (storings_are shape s.number 0 (calls_in content s.number) (answers s.number) has.groups has.replies)
       ∙ ap (λ (ps : List Planned). sum_by (numbers_of history) (storings shape s.number 0 ps)) (input.sessions i s here).calls
 
-  of_sessions : (ss : List SessionCalls) → ((i : ℕ) (s : SessionCalls) → slice_get ss i ≡ Some s → of_group used caller_of number_of history s ≡ sum_by (numbers_of history) (storings shape s.number 0 s.calls))
-      → sum_by (of_group used caller_of number_of history) ss ≡ sum_by (numbers_of history) (flat_map (λ s. storings shape s.number 0 s.calls) ss)
+  of_sessions : (ss : List SessionCalls) → ((i : ℕ) (s : SessionCalls) → slice_get ss i ≡ Some s → of_group used caller_of number_of last_ones s ≡ sum_by (numbers_of history) (storings shape s.number 0 s.calls))
+      → sum_by (of_group used caller_of number_of last_ones) ss ≡ sum_by (numbers_of history) (flat_map (λ s. storings shape s.number 0 s.calls) ss)
   of_sessions [] same = refl
   of_sessions (s ∷ ss) same =
-      sum_by-cons (of_group used caller_of number_of history) s ss
-      ∙ ap (λ (n : ℕ). n + sum_by (of_group used caller_of number_of history) ss) (same zero s refl)
+      sum_by-cons (of_group used caller_of number_of last_ones) s ss
+      ∙ ap (λ (n : ℕ). n + sum_by (of_group used caller_of number_of last_ones) ss) (same zero s refl)
       ∙ ap (λ (n : ℕ). sum_by (numbers_of history) (storings shape s.number 0 s.calls) + n) (of_sessions ss (λ i t here. same (suc i) t here))
       ∙ sym (sum_by-append (numbers_of history) (storings shape s.number 0 s.calls) (flat_map (λ t. storings shape t.number 0 t.calls) ss))
 
   within_puts : sum_by (numbers_of history) (calls_ended shape history) ≤ sum_by (numbers_of history) (puts_of shape content)
   within_puts =
-      let ended : sum_by (numbers_of history) (calls_ended shape history) ≡ sum_by used (filter (λ e. is_end e.line.part) history) =
-      sum_of_map (numbers_of history) (storing_of shape) (filter (λ e. is_end e.line.part) history) in
-      let kept : sum_by used (filter (λ e. is_end e.line.part) history) ≤ sum_by used history = sum_of_kept (λ e. is_end e.line.part) used history in
-      let spread : sum_by used history ≤ sum_by (of_group used caller_of number_of history) content.sessions = sum_of_groups used caller_of number_of history content.sessions grouped in
-      let whole : sum_by (of_group used caller_of number_of history) content.sessions ≡ sum_by (numbers_of history) (puts_of shape content) =
+      let ended_is : sum_by (numbers_of history) (calls_ended shape history) ≡ sum_by used last_ones = sum_of_map (numbers_of history) (storing_of shape) last_ones in
+      let spread : sum_by used last_ones ≤ sum_by (of_group used caller_of number_of last_ones) content.sessions = sum_of_groups used caller_of number_of last_ones content.sessions grouped in
+      let whole : sum_by (of_group used caller_of number_of last_ones) content.sessions ≡ sum_by (numbers_of history) (puts_of shape content) =
       of_sessions content.sessions of_session in
-      between (sum_by (numbers_of history) (calls_ended shape history)) (sum_by used (filter (λ e. is_end e.line.part) history)) (sum_by used history)
-      (sum_by (of_group used caller_of number_of history) content.sessions) (sum_by (numbers_of history) (puts_of shape content)) ended kept spread whole
+      between (sum_by (numbers_of history) (calls_ended shape history)) (sum_by used last_ones)
+      (sum_by (of_group used caller_of number_of last_ones) content.sessions) (sum_by (numbers_of history) (puts_of shape content)) ended_is spread whole
     where
-      between : (a b c d e : ℕ) → a ≡ b → b ≤ c → c ≤ d → d ≡ e → a ≤ e
-      between a b c d e p q r s = omega (arith, p, q, r, s)
+      between : (a b d e : ℕ) → a ≡ b → b ≤ d → d ≡ e → a ≤ e
+      between a b d e p q r = omega (arith, p, q, r)
 
   -- stripe numbers are used up by the puts of the input alone
   pub stripes_bounded : StripesBounded (calls_ended shape history) history → StripesBounded (puts_of shape content) history
@@ -110,15 +113,14 @@ module _ (shape : Shape) (content : Content) (answers : ℕ → List Answer) (hi
 
 -- ---- each call that a pass counted has its end
 
-pub has_ended : (fences : ℕ → ℕ) (log : Log) (spares c : ℕ) (content : Content) (answers : ℕ → List Answer) (history : List Entry) (w : PassState) → IsInput content → HasCallers content answers history
+pub has_ended : (fences : ℕ → ℕ) (log : Log) (spares c : ℕ) (content : Content) (answers : ℕ → List Answer) (history : List Entry) (w : PassState) → IsInput content
     → Went fences log (first_pass spares c) (calls_in content c) (answers c) w → (c < MAX_SESSIONS → HasCaller content answers history c) → HasEnded spares c history w
-has_ended fences log spares c content answers history w input all went has = record {
+has_ended fences log spares c content answers history w input went has = record {
   own = went.hand;
   ended = λ n lt.
       let within : n < length (calls_in content c) = subst (λ (k : ℕ). n < k) (went.count ∙ zero-add (length (calls_in content c))) lt in
       let one : (p : Planned) × (slice_get (calls_in content c) n ≡ Some p) = got (calls_in content c) n within in
       let session : c < MAX_SESSIONS = (input.calls c n one.0 one.1).session in
-      let entry : HasEntry content answers history c n one.0 = has_entry content answers history c n one.0 (has session) one.1 in
-      list_any_at (ends c n) history entry.at entry.entry (slice_get_within history entry.at entry.entry entry.here)
-      (ap (ends c n) (get_or_from_slice_get history entry.at entry.entry entry.entry entry.here) ∙ ends_it content answers history c n one.0 session all entry);
+      let its : HasEntries content answers history c n one.0 = has_entries content answers history c n one.0 (has session) one.1 in
+      any_found (ends c n) history its.group.last (its_end content answers history c n one.0 its);
 }

@@ -59,6 +59,7 @@ fn serve<N: Names, S: Store + Drop, G: Gate, R: Wait>(
         }
         Call::Read { name, index } => service.read(rt, pass, name.as_str(), *index),
         Call::Sum { name, index } => service.sum(rt, pass, name.as_str(), *index),
+        Call::Cat { name } => service.cat(rt, pass, name.as_str()),
         Call::Lose { node } => {
             let act = service.lose(rt, pass, *node)?;
             Ok(without_bytes(alloc, act))
@@ -71,11 +72,11 @@ fn serve<N: Names, S: Store + Drop, G: Gate, R: Wait>(
             let act = service.stat(rt, pass, name.as_str())?;
             Ok(without_bytes(alloc, act))
         }
-        Call::Cat { .. } | Call::Rebuild { .. } => unreachable!(),
+        Call::Rebuild { .. } => unreachable!(),
     }
 }
 
-/// The answer of a call that has no bytes and no digest.
+/// The answer of a call that has no bytes, no digest and no file.
 fn without_bytes(alloc: Global, act: Act) -> Answer
     ensures { (result.act ≡ act) × (result.bytes ≡ []) }
 {

@@ -7,7 +7,7 @@ ghost use Rattle.ecp_service.specs.Sinks.{Delivers, GotAll, GotPart, Writes};
 
 use crate::answer::{DONE, WRITE_FAULT};
 use crate::buffer::Buffer;
-use crate::reply_lines::{write_data, write_start, write_sum};
+use crate::reply_lines::{write_data, write_file, write_start, write_sum};
 use crate::run_lines::{write_history, write_session};
 use crate::serving::over::ScriptRun;
 use crate::serving::ran::Ran;
@@ -23,6 +23,15 @@ fn write_answer<W: Sink>(buffer: &mut Buffer, out: &mut W, answer: &Answer) -> R
 {
     match &answer.act {
         Act::Data => write_block(buffer, out, answer),
+        Act::Whole => write_file(buffer, out, answer.len, &answer.digest),
+        Act::Broken(index) => write_start(
+            buffer,
+            out,
+            &Reply::Broken {
+                index: *index,
+                cause: answer.cause,
+            },
+        ),
         ended => write_start(buffer, out, &Reply::Ended(*ended)),
     }
 }

@@ -1,4 +1,5 @@
-use Rattle.std.proofs.Common.{subst, List}
+use Rattle.std.proofs.Common.{ℕ, Option, subst, List}
+use Rattle.std.specs.Prelude.{IfSome}
 use Rattle.std.proofs.lemmas.Result.{err_from_is_err_and}
 use Rattle.ecp_command.specs.declared.input.numbered.Numbered.{Numbered}
 use Rattle.ecp_command.specs.Input.Costs.{IsOver}
@@ -11,10 +12,11 @@ returns-in_err-head-clause-refused c =
     let p = err_from_is_err_and c.from_residual.result c.from_residual.ensures.1 in
     rw (p.1, p.2) (head_refuses c.args.bytes.now _ c.in_err-head.field-0.0 c.in-Some.ensures.some c.in_err-head.ensures.refused)
 
-pub returns-in-Some-line_over-clause-refused : goal.returns-in-Some-line_over-clause-refused
-returns-in-Some-line_over-clause-refused c =
-    cost_refuses c.args.bytes.now _ c.in_ok-head.head c.in_ok-script.script c.in-Some-line_over.line c.in-Some.ensures.some c.in_ok-head.ensures.gives c.in_ok-script.ensures.read
-    (subst (λ (ns : List Numbered). IsOver ns c.in-Some-line_over.line) c.deref.ensures.value c.in-Some-line_over.ensures.over)
+pub returns-in-Some-2-clause-refused : goal.returns-in-Some-2-clause-refused
+returns-in-Some-2-clause-refused c =
+    cost_refuses c.args.bytes.now _ c.in_ok-head.head c.in_ok-script.script c.in-Some-2.line c.in-Some.ensures.some c.in_ok-head.ensures.gives c.in_ok-script.ensures.read
+    (subst (λ (ns : List Numbered). IsOver c.in_ok-head.head ns c.in-Some-2.line) c.deref.ensures.value
+    (subst (λ (o : Option ℕ). IfSome o (IsOver c.in_ok-head.head c.deref.result.now)) c.in-Some-2.is c.in_ok-line.ensures.over))
 
 pub sessions_with_calls-requires : goal.sessions_with_calls-requires
 sessions_with_calls-requires c = record {
