@@ -1,4 +1,5 @@
 pub mod Decimals
 pub mod Generating
 pub mod Inputs
+pub mod Soaking
 pub mod WordLists

@@ -1,3 +1,4 @@
 pub mod Generated
 pub mod Input
 pub mod Words
+pub mod Soak

@@ -9,6 +9,7 @@
 
 mod generated;
 mod input;
+mod soak;
 mod words;
 
 pub use generated::generate;
@@ -16,6 +17,7 @@ pub use input::{
     Call, Form, Head, Input, Planned, Refusal, RefusalText, Session, Setting, Subject, one_reading,
     read_input,
 };
+pub use soak::soak_input;
 pub use words::{Command, command};
 
 #[cfg(test)]

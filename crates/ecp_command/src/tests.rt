@@ -1,5 +1,6 @@
 use super::{
     Call, Command, Head, Input, Planned, Refusal, Setting, Subject, command, generate, read_input,
+    soak_input,
 };
 use ecp_shape::limits::MAX_INPUT;
 use std::alloc::{AllocError, Global};
@@ -577,5 +578,29 @@ fn prints_each_refusal(rt: HostRuntime) -> Result<(), Fail> {
     let text = Refusal::Key(Setting::Block).text();
     assert_eq!(rt; text.words, "head:");
     assert_eq!(rt; text.subject, Subject::Key(Setting::Block));
+    Ok(())
+}
+
+#[test]
+fn a_soak_has_79_calls_of_four_sessions(rt: HostRuntime) -> Result<(), Fail> {
+    let alloc = rt.alloc();
+    let input = soak_input(alloc, 14)?;
+    assert_eq!(rt; (input.sessions.len(), input.phases), (4, 6));
+    let counts = input.sessions.iter().map(|session| session.calls.len());
+    assert!(rt; counts.eq([22, 17, 20, 20]));
+    let first = &input.sessions[0].calls;
+    let (Some(put), Some(lose), Some(cat)) = (first.get(3), first.get(4), first.get(9)) else {
+        return Err("too few calls".into());
+    };
+    let Call::Put { name, bytes } = &put.call else {
+        return Err("no put".into());
+    };
+    assert_eq!(rt; (name.bytes(), bytes.len()), (b"f3".as_slice(), 68_536));
+    assert_eq!(rt; bytes.bytes(), generate(alloc, 17, 68_536)?.bytes());
+    assert!(rt; matches!(lose.call, Call::Lose { node: 6 }));
+    let Call::Cat { name } = &cat.call else {
+        return Err("no file".into());
+    };
+    assert_eq!(rt; name.bytes(), b"f4".as_slice());
     Ok(())
 }
