@@ -4,6 +4,7 @@ pub mod Kept
 pub mod Parts
 pub mod Fronts
 pub mod Passes
+pub mod Groups
 pub mod Callers
 pub mod Entries
 pub mod Pasts

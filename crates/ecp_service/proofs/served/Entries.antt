@@ -13,10 +13,11 @@ use Rattle.ecp_history.specs.Spans.{is_of, is_end, ends, is_part}
 use Rattle.ecp_service.specs.Asked.{calls_in, call_at}
 use Rattle.ecp_service.proofs.served.Callers.{is_by}
 use Rattle.ecp_service.proofs.served.Fronts.{at_end}
+use Rattle.ecp_service.proofs.served.Groups.{Rising, is_in_call, just_of_call, rising}
 use Rattle.ecp_service.proofs.served.Kept.{StoodAt, contains_at, kept_there, passed, passed_le, passed_lt, stood}
 use Rattle.ecp_service.proofs.served.Lists.{count_before, count_both, count_last, filter_both, filter_last, find_before, find_both, find_last, of_last, of_place}
 use Rattle.ecp_service.proofs.served.Parts.{CallEntries, all_entries, end_unnumbered, ended, ends_last, entries_of, numbered}
-use Rattle.ecp_service.proofs.served.Passes.{AreFenced, AreReplies, HasReply, IsFenced, IsIn, IsOfOne, IsReply, Rising, call_of_entry, entries_of_call, fenced_call, is_in_call, just_of_call, rising}
+use Rattle.ecp_service.proofs.served.Passes.{AreFenced, AreReplies, HasReply, IsFenced, IsIn, IsOfOne, IsReply, call_of_entry, entries_of_call, fenced_call}
 
 -- of a caller the history has just the entries of its calls, as they were answered
 pub record HasCaller (content : Content) (answers : ℕ → List Answer) (history : List Entry) (c : ℕ) : Type 0 where

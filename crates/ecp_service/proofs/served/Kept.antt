@@ -1,7 +1,7 @@
 -- Where the elements of a list stand that pass a test, and the sums over those of each group.
 use Rattle.std.proofs.Common.{◌≡◌, ℕ, zero, suc, ◌+◌, ◌<◌, ◌≤◌, ◌⊎◌, ◌==◌, Bool, true, false, cond, List, [], ◌∷◌, length, take, Some, refl, sym, ◌∙◌, ap, subst, inl, inr, arith, le_refl, Contains}
 use Rattle.std.specs.Prelude.{slice_get, filter, sum_by}
-use Rattle.std.proofs.lemmas.Bool.{cases_lt, eq-eqb}
+use Rattle.std.proofs.lemmas.Bool.{eq-eqb}
 use Rattle.std.proofs.lemmas.List.Sums.{sum_by-cons}
 use Rattle.std.proofs.lemmas.Option.{get_or_from_slice_get, none-some, same_Some, slice_get_within}
 
@@ -79,37 +79,11 @@ passed_lt {X} test (y ∷ xs) (suc i) (suc j) x here passes lt = either (test y)
   either true le = omega (arith, le)
   either false le = le
 
--- so of two that pass the one with fewer before it stands first
-pub first_of_two : {X : Type 0} (test : X → Bool) (xs : List X) (i j : ℕ) → passed test xs i < passed test xs j → i < j
-first_of_two test xs i j less = elim (cases_lt i j) [
-  | inl lt ↦ lt
-  | inr ge ↦ let most : passed test xs j ≤ passed test xs i = passed_le test xs j i ge in absurd (omega (arith, less, most))
-]
-
--- and there is one place for each number of them
-pub one_place : {X : Type 0} (test : X → Bool) (xs : List X) (i j : ℕ) (x y : X) → slice_get xs i ≡ Some x → slice_get xs j ≡ Some y → test x ≡ true → test y ≡ true
-    → passed test xs i ≡ passed test xs j → i ≡ j
-one_place test xs i j x y here there first second same = elim (cases_lt i j) [
-  | inl lt ↦ let less : passed test xs i < passed test xs j = passed_lt test xs i j x here first lt in absurd (omega (arith, less, same))
-  | inr ge ↦ elim (cases_lt j i) [
-    | inl lt ↦ let less : passed test xs j < passed test xs i = passed_lt test xs j i y there second lt in absurd (omega (arith, less, same))
-    | inr le ↦ omega (arith, ge, le)
-  ]
-]
-
 -- where an element of a list is found, the list has it
 pub contains_at : {X : Type 0} (xs : List X) (i : ℕ) (x : X) → slice_get xs i ≡ Some x → Contains xs x
 contains_at xs i x here = (i, slice_get_within xs i x here, get_or_from_slice_get xs i x x here)
 
 -- ---- sums
-
--- what is kept has no greater sum
-pub sum_of_kept : {X : Type 0} (test : X → Bool) (f : X → ℕ) (xs : List X) → sum_by f (filter test xs) ≤ sum_by f xs
-sum_of_kept test f [] = le_refl 0
-sum_of_kept {X} test f (x ∷ xs) = either (test x) (sum_of_kept test f xs) where
-  either : (b : Bool) → sum_by f (filter test xs) ≤ sum_by f xs → sum_by f (cond b (x ∷ filter test xs) (filter test xs)) ≤ sum_by f (x ∷ xs)
-  either true le = omega (arith, le, sum_by-cons f x xs, sum_by-cons f x (filter test xs))
-  either false le = omega (arith, le, sum_by-cons f x xs)
 
 module _ {X G : Type 0} (f : X → ℕ) (owner : X → ℕ) (number : G → ℕ) where
   -- the sum over the elements of a group

@@ -1,5 +1,5 @@
 -- The entries of one call: its parts, and the entry that ends it.
-use Rattle.std.proofs.Common.{◌≡◌, ℕ, zero, suc, ◌+◌, ◌<◌, ◌≤◌, nat_lt, Bool, true, false, cond, List, [], ◌∷◌, ◌++◌, length, Some, inl, inr, refl, sym, ◌∙◌, ap, arith}
+use Rattle.std.proofs.Common.{◌≡◌, ℕ, zero, suc, ◌+◌, ◌<◌, ◌≤◌, nat_lt, Bool, true, false, cond, List, [], ◌∷◌, ◌++◌, length, map, Some, inl, inr, refl, sym, ◌∙◌, ap, arith}
 use Rattle.std.specs.Prelude.{find, count_by, flat_map, slice_get}
 use Rattle.std.specs.List.{AllByRecursion, range_with_len}
 use Rattle.std.specs.Option.{option_map_or}
@@ -27,6 +27,10 @@ entries_of g = g.parts ++ g.last ∷ []
 -- those of calls, one after another
 abbrev pub all_entries : List CallEntries → List Entry
 all_entries gs = flat_map entries_of gs
+
+-- the end of each
+abbrev pub ends_of : List CallEntries → List Entry
+ends_of gs = map (λ g. g.last) gs
 
 -- whether an entry ends its call, and whether it is the part of this number
 abbrev pub ended : Entry → Bool

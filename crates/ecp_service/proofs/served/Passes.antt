@@ -1,11 +1,10 @@
 -- What a pass noted whose calls were answered: the entries of each call, in the order of the calls.
-use Rattle.std.proofs.Common.{◌≡◌, ◌≢◌, ℕ, zero, suc, ◌+◌, ◌<◌, ◌≤◌, ◌==◌, Bool, true, false, List, [], ◌∷◌, ◌++◌, length, map, Some, Contains, inl, inr, refl, sym, ◌∙◌, ap, subst, arith, add-zero, append-nil, append_assoc, le_trans}
-use Rattle.std.specs.Prelude.{All, filter, slice_get}
+use Rattle.std.proofs.Common.{◌≡◌, ℕ, zero, suc, ◌+◌, ◌<◌, ◌≤◌, Bool, List, [], ◌∷◌, ◌++◌, length, map, Some, Contains, inl, inr, refl, sym, ◌∙◌, ap, subst, arith, add-zero, append-nil, append_assoc, le_trans}
+use Rattle.std.specs.Prelude.{All, slice_get}
 use Rattle.std.specs.List.{AllByRecursion, enumerate_from}
 use mathlib.Core.List.{IsPrefix}
-use Rattle.std.proofs.lemmas.Bool.{eq-eqb, ne_eqb}
 use Rattle.std.proofs.lemmas.List.{map-append}
-use Rattle.std.proofs.lemmas.List.Elements.{All-contains, All-from_recursion, Contains-append_cases, filter-append, recursion_from_All}
+use Rattle.std.proofs.lemmas.List.Elements.{All-contains, All-from_recursion, Contains-append_cases, recursion_from_All}
 use Rattle.std.proofs.lemmas.Option.{none-some, same_Some}
 use Rattle.ecp_shape.specs.declared.shape.Shape.{Shape}
 use Rattle.ecp_book.specs.Logs.{Log}
@@ -20,7 +19,6 @@ use Rattle.ecp_entry.specs.declared.part.Part.TheVariants as part
 use Rattle.ecp_entry.specs.Items.{item}
 use Rattle.ecp_entry.specs.Told.{history_of}
 use Rattle.ecp_history.specs.Files.{Storing}
-use Rattle.ecp_history.specs.Spans.{is_end}
 use Rattle.ecp_sequencer.specs.Facts.{entries_noted}
 use Rattle.ecp_sequencer.specs.Notes.{Call}
 use Rattle.ecp_sequencer.specs.Passes.{PassState}
@@ -29,8 +27,8 @@ use Rattle.ecp_sequencer.specs.Steps.{Called, Steps, call_with}
 use Rattle.ecp_service.specs.Asked.{deed_of, put_stripes}
 use Rattle.ecp_service.specs.Served.{Gives, HasParts, Served, ServedOne}
 use Rattle.ecp_service.proofs.served.Fronts.{StandsLast, stands_last}
-use Rattle.ecp_service.proofs.served.Lists.{all_append, all_weaker, filter_all, filter_last, filter_none, of_last}
-use Rattle.ecp_service.proofs.served.Parts.{CallEntries, NoEnds, all_entries, ended, entries_of, parts_unended}
+use Rattle.ecp_service.proofs.served.Lists.{all_weaker, of_last}
+use Rattle.ecp_service.proofs.served.Parts.{CallEntries, NoEnds, all_entries, ends_of, entries_of, parts_unended}
 
 -- an entry of a call, by the numbers of its caller and of the call
 pub record IsIn (c n : ℕ) (p : Planned) (e : Entry) : Type 0 where
@@ -207,7 +205,7 @@ went shape told fences history v w (p ∷ calls) (a ∷ answers) begins long ser
 
 -- ---- the entries of a call by its number
 
-next_is : (a b : ℕ) → a + 1 + b ≡ a + suc b
+pub next_is : (a b : ℕ) → a + 1 + b ≡ a + suc b
 next_is a b = omega arith
 
 -- a call has the entries that have its number
@@ -271,105 +269,6 @@ call_of_entry c n [] [] (g ∷ groups) e are there = absurd are
 call_of_entry c n [] (a ∷ answers) _ e are there = absurd are
 call_of_entry c n (p ∷ calls) [] _ e are there = absurd are
 call_of_entry c n (p ∷ calls) (a ∷ answers) [] e are there = absurd are
-
--- ---- all entries of these calls
-
--- whether an entry is of the call with this number
-abbrev pub is_in_call : ℕ → Entry → Bool
-is_in_call n e = e.line.call == n
-
-none_in : (c m n : ℕ) (p : Planned) (es : List Entry) → m ≢ n → AllByRecursion (IsIn c m p) es → filter (is_in_call n) es ≡ []
-none_in c m n p es apart own =
-    filter_none (is_in_call n) es
-    (all_weaker (IsIn c m p) (λ (e : Entry). is_in_call n e ≡ false) es (λ e is. ap (λ (k : ℕ). k == n) is.call ∙ ne_eqb m n apart) own)
-
-all_in : (c n : ℕ) (p : Planned) (es : List Entry) → AllByRecursion (IsIn c n p) es → filter (is_in_call n) es ≡ es
-all_in c n p es own =
-    filter_all (is_in_call n) es (all_weaker (IsIn c n p) (λ (e : Entry). is_in_call n e ≡ true) es (λ e is. eq-eqb e.line.call n is.call) own)
-
--- later calls have none of an earlier one
-none_later : (c m n : ℕ) (calls : List Planned) (answers : List Answer) (groups : List CallEntries) → AreReplies c m calls answers groups → n < m → filter (is_in_call n) (all_entries groups) ≡ []
-none_later c m n [] [] [] are less = refl
-none_later c m n (p ∷ calls) (a ∷ answers) (g ∷ groups) are less =
-    filter-append (is_in_call n) (entries_of g) (all_entries groups)
-    ∙ ap (λ (es : List Entry). es ++ filter (is_in_call n) (all_entries groups)) (none_in c m n p (entries_of g) (λ is. omega (arith, is, less)) are.0.own)
-    ∙ none_later c (m + 1) n calls answers groups are.1 (omega (arith, less))
-none_later c m n [] [] (g ∷ groups) are less = absurd are
-none_later c m n [] (a ∷ answers) _ are less = absurd are
-none_later c m n (p ∷ calls) [] _ are less = absurd are
-none_later c m n (p ∷ calls) (a ∷ answers) [] are less = absurd are
-
--- those with the number of a call are its
-pub just_of_call : (c n : ℕ) (calls : List Planned) (answers : List Answer) (groups : List CallEntries) (k : ℕ) (g : CallEntries) → AreReplies c n calls answers groups → slice_get groups k ≡ Some g
-    → filter (is_in_call (n + k)) (all_entries groups) ≡ entries_of g
-just_of_call c n [] [] [] k g are here = absurd (none-some g here)
-just_of_call c n (p ∷ calls) (a ∷ answers) (x ∷ groups) zero g are here =
-    ap (λ (m : ℕ). filter (is_in_call m) (entries_of x ++ all_entries groups)) (add-zero n)
-    ∙ filter-append (is_in_call n) (entries_of x) (all_entries groups)
-    ∙ ap (λ (es : List Entry). es ++ filter (is_in_call n) (all_entries groups)) (all_in c n p (entries_of x) are.0.own)
-    ∙ ap (λ (es : List Entry). entries_of x ++ es) (none_later c (n + 1) n calls answers groups are.1 (omega arith))
-    ∙ append-nil (entries_of x)
-    ∙ ap entries_of (same_Some x g here)
-just_of_call c n (p ∷ calls) (a ∷ answers) (x ∷ groups) (suc k) g are here =
-    filter-append (is_in_call (n + suc k)) (entries_of x) (all_entries groups)
-    ∙ ap (λ (es : List Entry). es ++ filter (is_in_call (n + suc k)) (all_entries groups)) (none_in c n (n + suc k) p (entries_of x) (λ is. omega (arith, is)) are.0.own)
-    ∙ ap (λ (m : ℕ). filter (is_in_call m) (all_entries groups)) (sym (next_is n k))
-    ∙ just_of_call c (n + 1) calls answers groups k g are.1 here
-just_of_call c n [] [] (x ∷ groups) k g are here = absurd are
-just_of_call c n [] (a ∷ answers) _ k g are here = absurd are
-just_of_call c n (p ∷ calls) [] _ k g are here = absurd are
-just_of_call c n (p ∷ calls) (a ∷ answers) [] k g are here = absurd are
-
--- the calls of these entries do not fall
-abbrev pub Rising : List Entry → Type 0
-Rising [] = Unit {0}
-Rising (e ∷ es) = AllByRecursion (λ x. e.line.call ≤ x.line.call) es × Rising es
-
-rising_append : (c n : ℕ) (p : Planned) (xs ys : List Entry) → AllByRecursion (IsIn c n p) xs → AllByRecursion (λ e. n ≤ e.line.call) ys → Rising ys → Rising (xs ++ ys)
-rising_append c n p [] ys own above rise = rise
-rising_append c n p (x ∷ xs) ys own above rise =
-    let mine : x.line.call ≡ n = own.0.call in
-    let first : AllByRecursion (λ e. x.line.call ≤ e.line.call) xs =
-    all_weaker (IsIn c n p) (λ (e : Entry). x.line.call ≤ e.line.call) xs (λ e is. let its : e.line.call ≡ n = is.call in omega (arith, mine, its)) own.1 in
-    let second : AllByRecursion (λ e. x.line.call ≤ e.line.call) ys =
-    all_weaker (λ (e : Entry). n ≤ e.line.call) (λ (e : Entry). x.line.call ≤ e.line.call) ys (λ e le. omega (arith, mine, le)) above in
-    (all_append (λ (e : Entry). x.line.call ≤ e.line.call) xs ys first second, rising_append c n p xs ys own.1 above rise)
-
-from_number : (c n least : ℕ) (calls : List Planned) (answers : List Answer) (groups : List CallEntries) → AreReplies c n calls answers groups → least ≤ n
-    → AllByRecursion (λ e. least ≤ e.line.call) (all_entries groups)
-from_number c n least [] [] [] are le = tt
-from_number c n least (p ∷ calls) (a ∷ answers) (g ∷ groups) are le =
-    let first : AllByRecursion (λ e. least ≤ e.line.call) (entries_of g) =
-    all_weaker (IsIn c n p) (λ (e : Entry). least ≤ e.line.call) (entries_of g) (λ e is. let its : e.line.call ≡ n = is.call in omega (arith, its, le)) are.0.own in
-    all_append (λ (e : Entry). least ≤ e.line.call) (entries_of g) (all_entries groups) first (from_number c (n + 1) least calls answers groups are.1 (omega (arith, le)))
-from_number c n least [] [] (g ∷ groups) are le = absurd are
-from_number c n least [] (a ∷ answers) _ are le = absurd are
-from_number c n least (p ∷ calls) [] _ are le = absurd are
-from_number c n least (p ∷ calls) (a ∷ answers) [] are le = absurd are
-
-pub rising : (c n : ℕ) (calls : List Planned) (answers : List Answer) (groups : List CallEntries) → AreReplies c n calls answers groups → Rising (all_entries groups)
-rising c n [] [] [] are = tt
-rising c n (p ∷ calls) (a ∷ answers) (g ∷ groups) are =
-    rising_append c n p (entries_of g) (all_entries groups) are.0.own (from_number c (n + 1) n calls answers groups are.1 (omega arith)) (rising c (n + 1) calls answers groups are.1)
-rising c n [] [] (g ∷ groups) are = absurd are
-rising c n [] (a ∷ answers) _ are = absurd are
-rising c n (p ∷ calls) [] _ are = absurd are
-rising c n (p ∷ calls) (a ∷ answers) [] are = absurd are
-
--- one end for each call
-abbrev pub ends_of : List CallEntries → List Entry
-ends_of groups = map (λ g. g.last) groups
-
-pub just_ends : (c n : ℕ) (calls : List Planned) (answers : List Answer) (groups : List CallEntries) → AreReplies c n calls answers groups → filter ended (all_entries groups) ≡ ends_of groups
-just_ends c n [] [] [] are = refl
-just_ends c n (p ∷ calls) (a ∷ answers) (g ∷ groups) are =
-    filter-append ended (entries_of g) (all_entries groups)
-    ∙ ap (λ (es : List Entry). es ++ filter ended (all_entries groups)) (filter_last ended g.parts g.last are.0.unended (ap is_end are.0.last))
-    ∙ ap (λ (es : List Entry). g.last ∷ es) (just_ends c (n + 1) calls answers groups are.1)
-just_ends c n [] [] (g ∷ groups) are = absurd are
-just_ends c n [] (a ∷ answers) _ are = absurd are
-just_ends c n (p ∷ calls) [] _ are = absurd are
-just_ends c n (p ∷ calls) (a ∷ answers) [] are = absurd are
 
 -- there are as many answers as calls
 pub as_many : (c n : ℕ) (calls : List Planned) (answers : List Answer) (groups : List CallEntries) → AreReplies c n calls answers groups → length answers ≡ length calls

@@ -26,9 +26,10 @@ use Rattle.ecp_service.proofs.served.Lists.{any_found, filter_order, got}
 use Rattle.ecp_service.proofs.served.Callers.{is_by}
 use Rattle.ecp_service.proofs.served.Entries.{HasCaller, HasCallers, HasEntries, IsTold, has_entries, its_end, told_at}
 use Rattle.ecp_service.proofs.served.Inputs.{IsCall, IsInput}
+use Rattle.ecp_service.proofs.served.Groups.{just_ends}
 use Rattle.ecp_service.proofs.served.Kept.{IsGrouped, StoodAt, of_group, stood, sum_of_groups}
 use Rattle.ecp_service.proofs.served.Parts.{ended}
-use Rattle.ecp_service.proofs.served.Passes.{Went, just_ends, storings, storings_are}
+use Rattle.ecp_service.proofs.served.Passes.{Went, storings, storings_are}
 
 -- the stripes of a file lie below a higher number too
 below_more : (m more : ℕ) (act : Act) → m ≤ more → StripesBelow m act → StripesBelow more act
