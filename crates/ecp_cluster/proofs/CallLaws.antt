@@ -11,7 +11,7 @@ use Rattle.ecp_entry.specs.declared.entry.Entry.{Entry}
 use Rattle.ecp_entry.specs.Items.{item}
 use Rattle.ecp_sequencer.specs.Facts.{facts_of, room_noted}
 use Rattle.ecp_sequencer.specs.Notes.{Call}
-use Rattle.ecp_sequencer.specs.Passes.{PassState}
+use Rattle.ecp_sequencer.specs.Passes.{IsWhole, PassState}
 use Rattle.ecp_sequencer.specs.Sequencers.{SequencerState}
 use Rattle.ecp_sequencer.specs.Steps.{Event, IsOfCall, call_with}
 use Rattle.ecp_sequencer.proofs.StepLaws.{steps_both}
@@ -30,8 +30,9 @@ pub same_asked : (o : Option Call) (n m : ℕ) (a b : Deed) → o ≡ Some (call
 same_asked o n m a b first second = ap (λ (x : Option Call). asked_of x a) (sym first ∙ second)
 
 -- a pass that noted nothing more has its call open as before
-pub open_same : (v w : PassState) (asked : Deed) → w.notes ≡ v.notes → w.calls ≡ v.calls → IsOpen v asked → IsOpen w asked
-open_same v w asked notes calls is = record {
+pub open_same : (v w : PassState) (asked : Deed) → w.notes ≡ v.notes → w.calls ≡ v.calls → IsWhole w → IsOpen v asked → IsOpen w asked
+open_same v w asked notes calls whole is = record {
+  whole = whole;
   begun = omega (arith, is.begun, calls);
   call = ap (λ (ns : Log). (facts_of ns).call) notes ∙ is.call ∙ ap (λ (n : ℕ). Some (call_with (n - 1) asked)) (sym calls);
   room = omega (arith, is.room, ap (λ (ns : Log). room_noted ns) notes);

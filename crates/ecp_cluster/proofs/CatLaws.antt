@@ -30,7 +30,7 @@ use Rattle.ecp_sequencer.specs.Facts.{entries_noted, room_noted}
 use Rattle.ecp_sequencer.specs.Passes.{PassState}
 use Rattle.ecp_sequencer.specs.Sequencers.{SequencerState}
 use Rattle.ecp_sequencer.specs.Steps.{IsOfCall, Steps, call_with}
-use Rattle.ecp_sequencer.proofs.StepLaws.{steps_both, steps_none}
+use Rattle.ecp_sequencer.proofs.StepLaws.{steps_both, steps_none, steps_whole}
 use Rattle.ecp_coord.specs.declared.opened.Opened.{Opened}
 use Rattle.ecp_coord.specs.declared.opened.Opened.TheVariants as found
 use Rattle.ecp_coord.specs.Calls.{IsOpen, part_of}
@@ -80,7 +80,7 @@ opened_from shape told s t v w name found.NoSuchFile is some ends found_is = con
 opened_from shape told s t v w name (found.Opened len count first) is some enters found_is =
     let what : Act = act.Opened len count first in
     let e : Entry = part_of v (deed.Cat name) 0 (length s.history) what in
-    let stays = stays_open v w (deed.Cat name) (part.Part 0) (length s.history) (length s.history) 2 what [] is enters.event.steps.noted enters.calls (omega arith) (omega (arith, some)) in
+    let stays = stays_open v w (deed.Cat name) (part.Part 0) (length s.history) (length s.history) 2 what [] is enters.event.steps.noted enters.calls (steps_whole v w _ _ enters.event.steps is.whole) (omega arith) (omega (arith, some)) in
     let grown : history_of w.front ≡ history_of s.history ++ e ∷ [] = ap history_of (enters.event.front ∙ enters.event.history) ∙ history_of-more s.history v.hand e in (
       e,
       refl,

@@ -17,7 +17,7 @@ use Rattle.ecp_sequencer.specs.Passes.{PassState}
 use Rattle.ecp_sequencer.specs.Rounds.{Raised}
 use Rattle.ecp_sequencer.specs.Sequencers.{SequencerState}
 use Rattle.ecp_sequencer.specs.Steps.{Steps, IsOfCall, call_with}
-use Rattle.ecp_sequencer.proofs.StepLaws.{steps_both, steps_raised}
+use Rattle.ecp_sequencer.proofs.StepLaws.{steps_both, steps_raised, whole_by}
 use Rattle.ecp_coord.specs.Calls.{IsOpen, ended}
 use Rattle.ecp_cluster.specs.Answered.{Answered, Finishes, HasBegun}
 use Rattle.ecp_cluster.proofs.CallLaws.{open_same}
@@ -43,7 +43,8 @@ answered_by shape told v u w asked act began fin =
     ∙ ap (λ (n : ℕ). entry_with (line_with v.caller n p part.End act) (Some asked) (deed_name (Some asked)) []) number in
     let noted : Log = note p (room_noted r.notes - 1) (entering_of r.hand e) ∷ [] in
     let up : Steps u (e ∷ []) noted w =
-    steps_raised u r w (e ∷ []) noted (ap (λ (x : PassState). x.caller) fin.rises.same) (ap (λ (x : PassState). x.hand) fin.rises.same) (ap (λ (x : PassState). x.spare) fin.rises.same)
+    steps_raised u r w (e ∷ []) noted (ap (λ (x : PassState). x.caller) fin.rises.same) (ap (λ (x : PassState). x.hand) fin.rises.same) (ap (λ (x : PassState). x.places) fin.rises.same)
+    (ap (λ (x : PassState). x.spare) fin.rises.same)
     (ap (λ (x : PassState). x.notes) fin.rises.same) fin.rises.longer fin.rises.noted fin.ends.event.steps in
     let hand : r.hand ≡ v.hand = ap (λ (x : PassState). x.hand) fin.rises.same ∙ began.steps.hand in
     let late : length v.front ≤ p =
@@ -81,4 +82,6 @@ raised_finishes shape told v r w asked act rises fin = record {
 
 -- its call is open as before
 pub raised_open : (v r : PassState) (asked : Deed) → Raised v r → IsOpen v asked → IsOpen r asked
-raised_open v r asked rises is = open_same v r asked (ap (λ (x : PassState). x.notes) rises.same) (ap (λ (x : PassState). x.calls) rises.same) is
+raised_open v r asked rises is = open_same v r asked (ap (λ (x : PassState). x.notes) rises.same) (ap (λ (x : PassState). x.calls) rises.same)
+    (whole_by v r (ap (λ (x : PassState). x.caller) rises.same) (ap (λ (x : PassState). x.hand) rises.same) (ap (λ (x : PassState). x.places) rises.same)
+    (ap (λ (x : PassState). x.spare) rises.same) is.whole) is

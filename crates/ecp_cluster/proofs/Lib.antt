@@ -4,6 +4,7 @@ pub mod PaidLaws
 pub mod OpenLaws
 pub mod WorkLaws
 pub mod CallLaws
+pub mod KeptWholeLaws
 pub mod ReadLaws
 pub mod SumLaws
 pub mod PutLaws

@@ -15,7 +15,7 @@ use Rattle.ecp_sequencer.specs.Facts.{facts_of, entries_noted, room_noted}
 use Rattle.ecp_sequencer.specs.Passes.{PassState}
 use Rattle.ecp_sequencer.specs.Sequencers.{SequencerState}
 use Rattle.ecp_sequencer.specs.Steps.{Event, call_with}
-use Rattle.ecp_sequencer.proofs.StepLaws.{steps_both}
+use Rattle.ecp_sequencer.proofs.StepLaws.{steps_both, steps_whole}
 use Rattle.ecp_coord.specs.declared.no_places.NoPlaces.{NoPlaces}
 use Rattle.ecp_coord.specs.declared.no_places.NoPlaces.TheVariants as no
 use Rattle.ecp_coord.specs.declared.published.Published.{Published}
@@ -68,7 +68,7 @@ module _ (shape : Shape) (told : Bool) {N : Type 0} (s t : SequencerState) (v w 
   still_reserved event calls is =
       let notes : w.notes ≡ v.notes = event.steps.noted ∙ append-nil v.notes in
       record {
-        is_open = open_same v w (Put res.name res.len) notes calls is.is_open;
+        is_open = open_same v w (Put res.name res.len) notes calls (steps_whole v w [] [] event.steps is.is_open.whole) is.is_open;
         last = (is.last.0, ap (λ (ns : Log). bookings_noted ns) notes ∙ is.last.1);
         on_history = is.on_history;
         legal = is.legal;
@@ -89,7 +89,7 @@ module _ (shape : Shape) (told : Bool) {N : Type 0} (s t : SequencerState) (v w 
       goes = record {
         more = from.goes.more ++ [];
         steps = steps_both u v w [] [] from.goes.more [] from.goes.steps event.steps;
-        is_open = open_same v w asked (event.steps.noted ∙ append-nil v.notes) calls from.goes.is_open;
+        is_open = open_same v w asked (event.steps.noted ∙ append-nil v.notes) calls (steps_whole v w [] [] event.steps from.goes.is_open.whole) from.goes.is_open;
         calls = calls ∙ from.goes.calls;
       };
       reserved = still_reserved event calls is;

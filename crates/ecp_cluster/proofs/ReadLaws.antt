@@ -16,11 +16,11 @@ use Rattle.ecp_entry.specs.Told.{items_by}
 use Rattle.ecp_plan.specs.declared.plan.Plan.{Plan}
 use Rattle.ecp_sequencer.specs.Facts.{HandFacts, facts_of, room_noted}
 use Rattle.ecp_sequencer.specs.Notes.{note, entering_of}
-use Rattle.ecp_sequencer.specs.Passes.{PassState}
+use Rattle.ecp_sequencer.specs.Passes.{IsWhole, PassState}
 use Rattle.ecp_sequencer.specs.Sequencers.{SequencerState}
 use Rattle.ecp_sequencer.specs.Steps.{Event, Steps, call_with}
 use Rattle.ecp_sequencer.proofs.NoteLaws.{facts-other}
-use Rattle.ecp_sequencer.proofs.StepLaws.{steps_both, steps_none}
+use Rattle.ecp_sequencer.proofs.StepLaws.{steps_both, steps_none, steps_whole}
 use Rattle.ecp_coord.specs.declared.ask.Ask.{Ask}
 use Rattle.ecp_coord.specs.declared.ask.Ask.TheVariants as ask
 use Rattle.ecp_coord.specs.declared.no_plan.NoPlan.{NoPlan}
@@ -60,9 +60,9 @@ leaves_more w asked (part.Part j) what stays = (stays.0, λ is. stays.1)
 
 -- a part that is entered in that room leaves the call open
 stays_for : (v w : PassState) (asked : Deed) (at : Part) (position : ℕ) (what : Act) → IsOpen v asked → RoomFor at v
-    → w.notes ≡ v.notes ++ note position (room_noted v.notes - 1) (entering_of v.hand (closing v asked at position what [])) ∷ [] → w.calls ≡ v.calls → StaysOpen at 1 asked w
-stays_for v w asked part.End position what is some noted calls = tt
-stays_for v w asked (part.Part j) position what is some noted calls = stays_open v w asked (part.Part j) position position 1 what [] is noted calls (omega arith) (omega (arith, some))
+    → w.notes ≡ v.notes ++ note position (room_noted v.notes - 1) (entering_of v.hand (closing v asked at position what [])) ∷ [] → w.calls ≡ v.calls → IsWhole w → StaysOpen at 1 asked w
+stays_for v w asked part.End position what is some noted calls whole = tt
+stays_for v w asked (part.Part j) position what is some noted calls whole = stays_open v w asked (part.Part j) position position 1 what [] is noted calls whole (omega arith) (omega (arith, some))
 
 -- a part may be planned where it has that room
 pub room_by : (shape : Shape) (v : PassState) (a : Ask) → CanPlan shape v a → RoomFor (part_for a) v
@@ -101,7 +101,7 @@ parted shape told s t v w asked at what is some off ends =
       act = refl;
       bytes = refl;
       left = leaves_end w asked at what off (stays_for v w asked at (length s.history) what is some
-          (subst (λ (d : Deed). w.notes ≡ v.notes ++ note (length s.history) (room_noted v.notes - 1) (entering_of v.hand (closing v d at (length s.history) what [])) ∷ []) same ends.event.steps.noted) ends.calls);
+          (subst (λ (d : Deed). w.notes ≡ v.notes ++ note (length s.history) (room_noted v.notes - 1) (entering_of v.hand (closing v d at (length s.history) what [])) ∷ []) same ends.event.steps.noted) ends.calls (steps_whole v w _ _ ends.event.steps is.whole));
     }
 
 unplanned_by : (shape : Shape) (told : Bool) (s t : SequencerState) (v w : PassState) (asked : Deed) (at : Part) (said : Option Act) → IsOpen v asked → RoomFor at v
@@ -222,7 +222,7 @@ module _ (shape : Shape) (told : Bool) {N : Type 0} (v p : PassState) (asked : D
         act = refl;
         bytes = refl;
         left = leaves_more w asked plan.part act.Data (subst (λ (d : Deed). StaysOpen plan.part 2 d w) same
-            (stays_open p w f.asked plan.part (length s.sequence.history) plan.point 2 act.Data bytes f.is_open f.event.steps.noted f.calls (omega arith) (omega (arith, enough))));
+            (stays_open p w f.asked plan.part (length s.sequence.history) plan.point 2 act.Data bytes f.is_open f.event.steps.noted f.calls (steps_whole p w _ _ f.event.steps f.is_open.whole) (omega arith) (omega (arith, enough))));
       }
 
 -- with the bytes of the block that was fetched

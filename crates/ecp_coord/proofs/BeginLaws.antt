@@ -14,10 +14,11 @@ use Rattle.ecp_catalog.proofs.OutlineLaws.{other_spare}
 use Rattle.ecp_sequencer.specs.declared.limits.TheConstants.{ROOM}
 use Rattle.ecp_sequencer.specs.Notes.{Call, note, beginning_of}
 use Rattle.ecp_sequencer.specs.Facts.{HandFacts, facts_of, room_noted}
-use Rattle.ecp_sequencer.specs.Passes.{PassState}
+use Rattle.ecp_sequencer.specs.Passes.{IsWhole, PassState}
 use Rattle.ecp_sequencer.specs.Sequencers.{SequencerState}
 use Rattle.ecp_sequencer.specs.Steps.{Event, call_with}
 use Rattle.ecp_sequencer.proofs.NoteLaws.{facts-began}
+use Rattle.ecp_sequencer.proofs.StepLaws.{steps_whole}
 use Rattle.ecp_coord.specs.Calls.{Begins, IsFresh, IsOpen}
 use Rattle.ecp_coord.specs.Coords.{CoordParts, HasRoom, IsCoord, with_room}
 use Rattle.ecp_coord.proofs.BookLaws.{LeavesBooking, Serves, began_leaves, none_leaves, serves_same}
@@ -50,22 +51,23 @@ roomed_room nodes c notes (deed.Rebuild from to) hands has = has
 roomed_room nodes c notes (deed.Stat name) hands has = has
 
 -- the call that began is open
-pub begun_open : (shape : Shape) (told : Bool) (s t : SequencerState) (v w : PassState) (asked : Deed) → Begins shape told s v asked t w → w.calls ≡ v.calls + 1 → IsOpen w asked
-begun_open shape told s t v w asked begins counted =
+pub begun_open : (shape : Shape) (told : Bool) (s t : SequencerState) (v w : PassState) (asked : Deed) → IsWhole v → Begins shape told s v asked t w → w.calls ≡ v.calls + 1 → IsOpen w asked
+begun_open shape told s t v w asked whole begins counted =
     let facts = ap (λ (ns : Log). facts_of ns) begins.steps.noted ∙ facts-began v.notes (length s.history) ROOM (call_with v.calls asked) in
     let number : v.calls ≡ w.calls - 1 = omega (arith, counted) in
     let room : room_noted w.notes ≡ ROOM = ap (λ (f : HandFacts). f.room) facts in
     record {
+      whole = steps_whole v w [] (note (length s.history) ROOM (beginning_of (call_with v.calls asked)) ∷ []) begins.steps whole;
       begun = omega (arith, counted);
       call = ap (λ (f : HandFacts). f.call) facts ∙ ap (λ (n : ℕ). Some (call_with n asked)) number;
       room = omega (arith, room);
     }
 
 -- of a call that may be refused
-pub begin_open : (shape : Shape) (told : Bool) {R E : Type 0} (result : Result R E) (s t : SequencerState) (v w : PassState) (asked : Deed) → OnOk result (Begins shape told s v asked t w)
+pub begin_open : (shape : Shape) (told : Bool) {R E : Type 0} (result : Result R E) (s t : SequencerState) (v w : PassState) (asked : Deed) → IsWhole v → OnOk result (Begins shape told s v asked t w)
     → OnOk result (w.calls ≡ v.calls + 1) → OnOk result (IsOpen w asked)
-begin_open shape told (Ok r) s t v w asked ok counted = begun_open shape told s t v w asked ok counted
-begin_open shape told (Err e) s t v w asked ok counted = tt
+begin_open shape told (Ok r) s t v w asked whole ok counted = begun_open shape told s t v w asked whole ok counted
+begin_open shape told (Err e) s t v w asked whole ok counted = tt
 
 -- and of names and files there is as much
 roomed_serves : (c : CatalogState) (asked : Deed) (hands : ℕ) → Serves c (with_room asked hands c)
@@ -79,15 +81,15 @@ roomed_serves c (deed.Rebuild from to) hands = serves_same c
 roomed_serves c (deed.Stat name) hands = serves_same c
 
 -- and nothing was noted of it yet
-begun_fresh : (shape : Shape) (told : Bool) (s t : SequencerState) (v w : PassState) (asked : Deed) → Begins shape told s v asked t w → w.calls ≡ v.calls + 1 → IsFresh w asked
-begun_fresh shape told s t v w asked begins counted =
+begun_fresh : (shape : Shape) (told : Bool) (s t : SequencerState) (v w : PassState) (asked : Deed) → IsWhole v → Begins shape told s v asked t w → w.calls ≡ v.calls + 1 → IsFresh w asked
+begun_fresh shape told s t v w asked whole begins counted =
     let facts = ap (λ (ns : Log). facts_of ns) begins.steps.noted ∙ facts-began v.notes (length s.history) ROOM (call_with v.calls asked) in
-    record { is_open = begun_open shape told s t v w asked begins counted; none = ap (λ (f : HandFacts). f.since) facts }
+    record { is_open = begun_open shape told s t v w asked whole begins counted; none = ap (λ (f : HandFacts). f.since) facts }
 
-pub begin_fresh : (shape : Shape) (told : Bool) {R E : Type 0} (result : Result R E) (s t : SequencerState) (v w : PassState) (asked : Deed) → OnOk result (Begins shape told s v asked t w)
+pub begin_fresh : (shape : Shape) (told : Bool) {R E : Type 0} (result : Result R E) (s t : SequencerState) (v w : PassState) (asked : Deed) → IsWhole v → OnOk result (Begins shape told s v asked t w)
     → OnOk result (w.calls ≡ v.calls + 1) → OnOk result (IsFresh w asked)
-begin_fresh shape told (Ok r) s t v w asked ok counted = begun_fresh shape told s t v w asked ok counted
-begin_fresh shape told (Err e) s t v w asked ok counted = tt
+begin_fresh shape told (Ok r) s t v w asked whole ok counted = begun_fresh shape told s t v w asked whole ok counted
+begin_fresh shape told (Err e) s t v w asked whole ok counted = tt
 
 module _ (shape : Shape) (told : Bool) (callers spares : ℕ) where
   begun_kept : (s t : SequencerState) (v w : PassState) (p : CoordParts) (asked : Deed) → IsCoord shape told callers spares s p → IsMet shape told callers spares s v

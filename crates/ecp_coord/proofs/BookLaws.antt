@@ -183,7 +183,7 @@ leaves_by was now x is off since call = record {
   ];
 }
 
-pub other_leaves : (was : Log) (point room : ℕ) (what : List ℕ) → 2 ≤ slice_index what 0 → slice_index what 0 == reserved ≡ false → LeavesBooking was (was ++ note point room what ∷ [])
+pub other_leaves : (was : Log) (point room : ℕ) (what : List ℕ) → 3 ≤ slice_index what 0 → slice_index what 0 == reserved ≡ false → LeavesBooking was (was ++ note point room what ∷ [])
 other_leaves was point room what kind off =
     let facts = facts-other was point room what kind in
     leaves_by was (was ++ note point room what ∷ []) (note point room what) refl off (ap (λ (f : HandFacts). f.since) facts) (inl (ap (λ (f : HandFacts). f.call) facts))

@@ -71,7 +71,7 @@ open_unasked shape notes c is none =
     ap (λ (n : ℕ). attempt_noted notes * n) asked ∙ mul_comm (attempt_noted notes) 0 ∙ zero_times (attempt_noted notes)
 
 -- a note of another kind leaves it
-pub open_other : (shape : Shape) (was : Log) (point room : ℕ) (what : List ℕ) → 2 ≤ slice_index what 0 → slice_index what 0 == reserved ≡ false
+pub open_other : (shape : Shape) (was : Log) (point room : ℕ) (what : List ℕ) → 3 ≤ slice_index what 0 → slice_index what 0 == reserved ≡ false
     → open_numbers shape (was ++ note point room what ∷ []) ≡ open_numbers shape was
 open_other shape was point room what kind off =
     ap (λ (f : HandFacts). open_of shape f) (facts-other was point room what kind)
@@ -122,7 +122,7 @@ begun_owes shape was now point room c grown all =
     omega (arith, none)
 
 -- another note takes none
-pub other_owes : (shape : Shape) (was now : Log) (point room : ℕ) (what : List ℕ) → now ≡ was ++ note point room what ∷ [] → 2 ≤ slice_index what 0 → slice_index what 0 == reserved ≡ false
+pub other_owes : (shape : Shape) (was now : Log) (point room : ℕ) (what : List ℕ) → now ≡ was ++ note point room what ∷ [] → 3 ≤ slice_index what 0 → slice_index what 0 == reserved ≡ false
     → EachEnded now → open_numbers shape was ≤ open_numbers shape now
 other_owes shape was now point room what grown kind off all =
     let same = ap (λ (ns : Log). open_numbers shape ns) grown ∙ open_other shape was point room what kind off in

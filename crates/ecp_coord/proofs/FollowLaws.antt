@@ -21,7 +21,7 @@ use Rattle.ecp_history.specs.Follows.{after_last, after_part, follows, is_cat, i
 use Rattle.ecp_sequencer.specs.Hands.{IsHandOf, hands_of, own_hand}
 use Rattle.ecp_sequencer.specs.Facts.{HandFacts, entries_noted}
 use Rattle.ecp_sequencer.specs.Histories.{FitsMaker, IsKept, notes_at}
-use Rattle.ecp_sequencer.specs.Passes.{PassState}
+use Rattle.ecp_sequencer.specs.Passes.{IsWhole, PassState}
 use Rattle.ecp_sequencer.specs.Sequencers.{SequencerState, Agrees}
 use Rattle.ecp_sequencer.proofs.NoteLaws.{facts_of-none}
 use Rattle.ecp_sequencer.proofs.StartLaws.{hands_fit}
@@ -36,6 +36,10 @@ pub record IsMet (shape : Shape) (told : Bool) (callers spares : ℕ) (s : Seque
   pub session : v.caller < MAX_SESSIONS
   pub own : v.hand ≡ own_hand spares v.caller
   pub in_range : v.hand < hands_of callers spares
+
+-- the hand of a whole pass is its caller's own
+pub its_own : (spares : ℕ) (v : PassState) → v.places ≡ spares → IsWhole v → v.hand ≡ own_hand spares v.caller
+its_own spares v places whole = whole.own ∙ ap (λ (n : ℕ). own_hand n v.caller) places
 
 -- ---- an entry stands past all that passes no test from there on
 

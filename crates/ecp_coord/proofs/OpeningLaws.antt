@@ -25,7 +25,7 @@ use Rattle.ecp_catalog.proofs.OutlineLaws.{unchanged}
 use Rattle.ecp_sequencer.specs.Facts.{HandFacts, facts_of, room_noted}
 use Rattle.ecp_sequencer.specs.Hands.{hands_of}
 use Rattle.ecp_sequencer.specs.Notes.{note, entering_of}
-use Rattle.ecp_sequencer.specs.Passes.{PassState}
+use Rattle.ecp_sequencer.specs.Passes.{IsWhole, PassState}
 use Rattle.ecp_sequencer.specs.Sequencers.{SequencerState}
 use Rattle.ecp_sequencer.specs.Steps.{call_with}
 use Rattle.ecp_sequencer.proofs.NoteLaws.{facts-entered, with_entry}
@@ -76,10 +76,11 @@ module _ (v w : PassState) (asked : Deed) (open_call : IsOpen v asked) (j positi
   part_call : (facts_of w.notes).call ≡ Some (call_with (v.calls - 1) asked)
   part_call = ap (λ (f : HandFacts). f.call) facts_is ∙ open_call.call
 
-  pub part_open : w.calls ≡ v.calls → 2 ≤ room_noted v.notes → IsOpen w asked
-  part_open calls some =
+  pub part_open : w.calls ≡ v.calls → IsWhole w → 2 ≤ room_noted v.notes → IsOpen w asked
+  part_open calls whole some =
       let room : room_noted w.notes ≡ room_noted v.notes - 1 = ap (λ (f : HandFacts). f.room) facts_is in
       record {
+        whole = whole;
         begun = subst (λ (n : ℕ). 1 ≤ n) (sym calls) open_call.begun;
         call = part_call ∙ ap (λ (n : ℕ). Some (call_with (n - 1) asked)) (sym calls);
         room = omega (arith, room, some);

@@ -40,6 +40,7 @@ use Rattle.ecp_sequencer.specs.Passes.{PassState}
 use Rattle.ecp_sequencer.specs.Sequencers.{SequencerState}
 use Rattle.ecp_sequencer.specs.Steps.{Event, call_with}
 use Rattle.ecp_sequencer.proofs.NoteLaws.{facts-other}
+use Rattle.ecp_sequencer.proofs.StepLaws.{steps_whole}
 use Rattle.ecp_coord.specs.Attempts.{IsOf, lanes_for}
 use Rattle.ecp_coord.specs.Calls.{IsOpen}
 use Rattle.ecp_coord.specs.Plans.{AreChosen, IsDue, IsPlanned, block_of, is_recoverable, plan_says, planned, planning_of, plans_noted}
@@ -200,6 +201,7 @@ module _ (shape : Shape) (told : Bool) (s t : SequencerState) (v w : PassState) 
       record {
         asked = asked;
         is_open = record {
+          whole = steps_whole v w [] (note (length s.history) room (planning_of plan) ∷ []) event.steps open_call.whole;
           begun = omega (arith, open_call.begun, calls);
           call = ap (λ (f : HandFacts). f.call) facts ∙ open_call.call ∙ ap (λ (n : ℕ). Some (call_with (n - 1) asked)) (sym calls);
           room = omega (arith, roomed, some);

@@ -21,7 +21,7 @@ use Rattle.ecp_history.specs.Named.{block_at}
 use Rattle.ecp_history.specs.table.Steps.{table_of}
 use Rattle.ecp_history.specs.table.Tables.{PlainTable, live_rows}
 use Rattle.ecp_catalog.specs.Stamps.{StampsSeen}
-use Rattle.ecp_sequencer.specs.Passes.{PassState}
+use Rattle.ecp_sequencer.specs.Passes.{IsWhole, PassState}
 use Rattle.ecp_sequencer.specs.Sequencers.{SequencerState}
 use Rattle.ecp_sequencer.specs.Steps.{Event}
 use Rattle.ecp_sequencer.proofs.StepLaws.{steps_both}
@@ -39,6 +39,11 @@ use Rattle.ecp_coord.proofs.FollowLaws.{IsMet}
 use Rattle.ecp_coord.proofs.LoseLaws.{length_told}
 use Rattle.ecp_coord.proofs.SeekLaws.{lacks_rows, of_block, refusal_follows}
 use Rattle.ecp_coord.proofs.StayLaws.{block_at_stays}
+
+-- a pass that asks for a block is its caller's own
+pub sought_whole : (shape : Shape) (v : PassState) (at : Part) (name : List ℕ) (index : ℕ) → IsSought shape v at name index → IsWhole v
+sought_whole shape v at name index (inl of) = of.1.fresh.is_open.whole
+sought_whole shape v at name index (inr of) = of.1.is_open.whole
 
 module _ (shape : Shape) (told : Bool) (callers spares : ℕ) (s : SequencerState) (v : PassState) (p : CoordParts) (is : IsCoord shape told callers spares s p) (met : IsMet shape told callers spares s v) where
   abbrev before : List Entry

@@ -30,11 +30,12 @@ use Rattle.ecp_sequencer.specs.declared.limits.TheConstants.{ROOM}
 use Rattle.ecp_sequencer.specs.Histories.{notes_at}
 use Rattle.ecp_sequencer.specs.Notes.{Call, note}
 use Rattle.ecp_sequencer.specs.Facts.{HandFacts, entries_noted, facts_of, room_noted}
-use Rattle.ecp_sequencer.specs.Passes.{PassState}
+use Rattle.ecp_sequencer.specs.Passes.{IsWhole, PassState}
 use Rattle.ecp_sequencer.specs.Sequencers.{SequencerState}
 use Rattle.ecp_sequencer.specs.Steps.{Event, call_with}
 use Rattle.ecp_sequencer.proofs.NoteLaws.{facts-other, room-more}
 use Rattle.ecp_sequencer.proofs.StepLaws.{steps_both}
+use Rattle.ecp_sequencer.proofs.StepLaws.{steps_whole}
 use Rattle.ecp_coord.specs.declared.reservation.Reservation.{Reservation}
 use Rattle.ecp_coord.specs.Bookings.{booking, bookings_noted, name_open, reserved, still_due, taken_by}
 use Rattle.ecp_coord.specs.Calls.{IsOpen}
@@ -75,11 +76,12 @@ reserved_room nodes c d notes same has = λ m below. subst (λ (xs : List NodeSe
 
 -- a note of a reservation leaves the call open
 pub still_open : (p q : PassState) (asked : Deed) (point room : ℕ) (says : List ℕ) → IsOpen p asked → q.notes ≡ p.notes ++ note point room (reserved ∷ says) ∷ [] → q.calls ≡ p.calls → 1 ≤ room
-    → IsOpen q asked
-still_open p q asked point room says is noted calls some =
+    → IsWhole q → IsOpen q asked
+still_open p q asked point room says is noted calls some whole =
     let facts = ap (λ (ns : Log). facts_of ns) noted ∙ facts-other p.notes point room (reserved ∷ says) (omega arith) in
     let left : room_noted q.notes ≡ room = ap (λ (f : HandFacts). f.room) facts in
     record {
+      whole = whole;
       begun = let was = is.begun in omega (arith, was, calls);
       call = ap (λ (f : HandFacts). f.call) facts ∙ is.call ∙ ap (λ (n : ℕ). Some (call_with (n - 1) asked)) (sym calls);
       room = omega (arith, left, some);
@@ -113,7 +115,8 @@ is_reserved shape told s t v w res room made =
     let left : room_noted w.notes ≡ room = ap room_noted event.steps.noted ∙ room-more v.notes (length s.history) room (booking_of res) in
     record {
       is_open = still_open v w (Put res.name res.len) (length s.history) room (booking_says res) made.was_open event.steps.noted made.calls
-          (let few = made.few in let enough = made.enough in omega (arith, few, enough));
+          (let few = made.few in let enough = made.enough in omega (arith, few, enough))
+          (steps_whole v w [] (note (length s.history) room (booking_of res) ∷ []) event.steps made.was_open.whole);
       last = (bookings_noted v.notes, ap (λ (ns : Log). bookings_noted ns) event.steps.noted ∙ bookings-more v.notes (length s.history) room (booking_says res));
       on_history = made.on_history;
       legal = subst (λ (xs : Log). TellsLegal shape told xs) items event.legal;

@@ -1,6 +1,6 @@
 -- Calls that lose nodes, one behind another.
-use Rattle.std.proofs.Common.{◌≡◌, ℕ, ◌+◌, ◌-◌, ◌≤◌, Bool, [], ◌∷◌, ◌++◌, length, Some, Result, Ok, Err, OnOk, OnErr, refl, ◌∙◌, ap, subst, arith}
-use Rattle.std.specs.Prelude.{IfOk}
+use Rattle.std.proofs.Common.{◌≡◌, ℕ, ◌+◌, ◌-◌, ◌<◌, ◌≤◌, Bool, List, [], ◌∷◌, ◌++◌, length, get_or, Some, Result, Ok, Err, OnOk, OnErr, refl, sym, ◌∙◌, ap, subst, arith}
+use Rattle.std.specs.Prelude.{All, IfOk}
 use Rattle.std.proofs.lemmas.List.Elements.{All-nil, All-push}
 use Rattle.ecp_shape.specs.declared.shape.Shape.{Shape}
 use Rattle.ecp_book.specs.Logs.{Log}
@@ -13,12 +13,12 @@ use Rattle.ecp_entry.specs.Items.{item}
 use Rattle.ecp_entry.specs.ReadBack.{line_with, entry_with}
 use Rattle.ecp_sequencer.specs.Facts.{room_noted}
 use Rattle.ecp_sequencer.specs.Notes.{note, entering_of}
-use Rattle.ecp_sequencer.specs.Passes.{PassState}
+use Rattle.ecp_sequencer.specs.Passes.{IsWhole, PassState, first_passes}
 use Rattle.ecp_sequencer.specs.Sequencers.{SequencerState}
 use Rattle.ecp_sequencer.specs.Steps.{Steps, Event, IsOfCall, call_with}
-use Rattle.ecp_sequencer.specs.Rounds.{Began, Worked}
-use Rattle.ecp_sequencer.proofs.StepLaws.{steps_both}
-use Rattle.ecp_sequencer.proofs.RoundLaws.{worked_none}
+use Rattle.ecp_sequencer.specs.Rounds.{Began, Raised, Worked}
+use Rattle.ecp_sequencer.proofs.StepLaws.{first_whole, steps_both, steps_whole, whole_by}
+use Rattle.ecp_sequencer.proofs.RoundLaws.{first_of_two, worked_none}
 use Rattle.ecp_coord.specs.declared.node_act.NodeAct.{NodeAct}
 use Rattle.ecp_coord.specs.Calls.{Begins, Ends, IsOpen, ended}
 use Rattle.ecp_coord.specs.Losing.{act_of}
@@ -47,8 +47,9 @@ refused_either (Ok r) shape told s t v w event le = tt
 refused_either (Err e) shape told s t v w event le = worked_none shape told s t v w event le
 
 -- a call that began is open
-pub began_open : (v w : PassState) (asked : Deed) → Began v asked w → IsOpen w asked
-began_open v w asked is = record {
+pub began_open : (v w : PassState) (asked : Deed) → IsWhole v → Began v asked w → IsOpen w asked
+began_open v w asked whole is = record {
+  whole = steps_whole v w [] is.more is.steps whole;
   begun = omega (arith, is.calls);
   call = is.call ∙ ap (λ (n : ℕ). Some (call_with n asked)) (let n : v.calls ≡ w.calls - 1 = omega (arith, is.calls) in n);
   room = is.room;
@@ -96,3 +97,18 @@ pub worked_either : {E : Type 0} (result : Result NodeAct E) (shape : Shape) (to
     → OnErr result (Worked v w) → Worked v w
 worked_either (Ok found) shape told v w node ok err = worked_lose shape told v w node found ok
 worked_either (Err e) shape told v w node ok err = err
+
+-- ---- passes that stay whole
+
+pub worked_whole : (v w : PassState) → Worked v w → IsWhole v → IsWhole w
+worked_whole v w did is = steps_whole v w did.mine did.more did.steps is
+
+pub raised_whole : (v w : PassState) → Raised v w → IsWhole v → IsWhole w
+raised_whole v w r is =
+    whole_by v w (ap (λ (p : PassState). p.caller) r.same) (ap (λ (p : PassState). p.hand) r.same) (ap (λ (p : PassState). p.places) r.same) (ap (λ (p : PassState). p.spare) r.same) is
+
+-- those of two callers that did nothing yet
+pub firsts_whole : (passes : List PassState) → passes ≡ first_passes 1 2 → All IsWhole passes
+firsts_whole passes firsts = λ k p lt.
+    let two : length passes ≡ 2 = ap (λ (ps : List PassState). length ps) firsts in
+    subst (λ (v : PassState). IsWhole v) (sym (ap (λ (ps : List PassState). get_or ps k p) firsts ∙ first_of_two k p (omega (arith, lt, two)))) (first_whole 1 k)

@@ -16,8 +16,8 @@ use Rattle.ecp_entry.specs.declared.part.Part.{Part}
 use Rattle.ecp_entry.specs.declared.part.Part.TheVariants as part
 use Rattle.ecp_entry.specs.Told.{Made, made_from, made_of, history_of, items_by}
 use Rattle.ecp_history.specs.Spans as spans
-use Rattle.ecp_sequencer.specs.Notes.{Call, began, entered, kind_of, says_of, call_of, call_from}
-use Rattle.ecp_sequencer.specs.Facts.{HandFacts, after_note, after_began, after_entered, after_other, ends_call, is_end, facts_of, entries_noted}
+use Rattle.ecp_sequencer.specs.Notes.{Call, began, entered, over, kind_of, says_of, call_of, call_from}
+use Rattle.ecp_sequencer.specs.Facts.{HandFacts, after_note, after_began, after_entered, after_over, after_other, ends_call, is_end, facts_of, entries_noted}
 use Rattle.ecp_sequencer.specs.Hands.{IsHandOf}
 use Rattle.ecp_sequencer.specs.Histories.{FitsMaker, FitsNote, Stands}
 use Rattle.ecp_sequencer.proofs.NoteLaws.{facts_of-none, facts_of-more}
@@ -34,23 +34,31 @@ abbrev pub ends_as : ℕ → List ℕ → Bool
 ends_as n x = (number_of x == n) && ends_call x
 
 -- a note by its kind
-by_kind : (P : HandFacts → Type 0) (f : HandFacts) (x : List ℕ) → (kind_of x ≡ began → P (after_began f x)) → (kind_of x ≡ entered → P (after_entered f x)) → P (after_other f x)
+by_kind : (P : HandFacts → Type 0) (f : HandFacts) (x : List ℕ) → (kind_of x ≡ began → P (after_began f x)) → (kind_of x ≡ entered → P (after_entered f x)) → P (after_over f x) → P (after_other f x)
     → P (after_note f x)
-by_kind P f x on_began on_entered on_other =
+by_kind P f x on_began on_entered on_over on_other =
     elim (cases_eq (kind_of x) began) [
       | inl same ↦
           let is : kind_of x == began ≡ true = grind (arith, nat_tests) in
-          subst (λ (b : Bool). P (cond b (after_began f x) (cond (kind_of x == entered) (after_entered f x) (after_other f x)))) (sym is) (on_began same)
+          subst (λ (b : Bool). P (cond b (after_began f x) (cond (kind_of x == entered) (after_entered f x) (cond (kind_of x == over) (after_over f x) (after_other f x))))) (sym is) (on_began same)
       | inr apart ↦
           let off : kind_of x == began ≡ false = grind (arith, nat_tests) in
-          subst (λ (b : Bool). P (cond b (after_began f x) (cond (kind_of x == entered) (after_entered f x) (after_other f x)))) (sym off)
+          subst (λ (b : Bool). P (cond b (after_began f x) (cond (kind_of x == entered) (after_entered f x) (cond (kind_of x == over) (after_over f x) (after_other f x))))) (sym off)
           (elim (cases_eq (kind_of x) entered) [
             | inl same ↦
                 let is : kind_of x == entered ≡ true = grind (arith, nat_tests) in
-                subst (λ (b : Bool). P (cond b (after_entered f x) (after_other f x))) (sym is) (on_entered same)
+                subst (λ (b : Bool). P (cond b (after_entered f x) (cond (kind_of x == over) (after_over f x) (after_other f x)))) (sym is) (on_entered same)
             | inr other ↦
                 let none : kind_of x == entered ≡ false = grind (arith, nat_tests) in
-                subst (λ (b : Bool). P (cond b (after_entered f x) (after_other f x))) (sym none) on_other
+                subst (λ (b : Bool). P (cond b (after_entered f x) (cond (kind_of x == over) (after_over f x) (after_other f x)))) (sym none)
+                (elim (cases_eq (kind_of x) over) [
+                  | inl same ↦
+                      let is : kind_of x == over ≡ true = grind (arith, nat_tests) in
+                      subst (λ (b : Bool). P (cond b (after_over f x) (after_other f x))) (sym is) on_over
+                  | inr more ↦
+                      let none : kind_of x == over ≡ false = grind (arith, nat_tests) in
+                      subst (λ (b : Bool). P (cond b (after_over f x) (after_other f x))) (sym none) on_other
+                ])
           ])
     ]
 
@@ -133,6 +141,7 @@ unended_more hand history before x is fits =
       none = none_above f.calls (call_from (says_of x)).number f.entries is.below rises;
     })
     (λ same. unended_entered f x is (fits.of_call same))
+    (record { below = is.below; last = tt; none = tt })
     (record { below = is.below; last = is.last; none = is.none })
 
 unended : (hand : ℕ) (history notes : Log) → Stands history hand notes → (n : ℕ) → n ≤ length notes → IsUnended (facts_of (take n notes))
@@ -184,6 +193,7 @@ asked_more hand history before x is fits =
       asks = subst (λ (o : Option Call). MatchOption (cond (ends_call y) None o) ⊤ (λ k. All (AsksWith k) (f.entries ++ y ∷ []))) (sym open_call)
           (or_ended (λ k. All (AsksWith k) (f.entries ++ y ∷ [])) (ends_call y) (Some c) (All-push (AsksWith c) f.entries y asks (λ at. refl)));
     })
+    (record { below = is.below; last = tt; asks = tt })
     (record { below = is.below; last = is.last; asks = is.asks })
 
 -- each entry of the hand with the number of its open call is of this call
@@ -217,6 +227,7 @@ skipped_more n hand history before x is fits =
       past = is.past;
       later = or_ended (λ c. n < c.number) (ends_call y) f.call is.later;
     })
+    (record { none = is.none; past = is.past; later = tt })
     (record { none = is.none; past = is.past; later = is.later })
 
 -- where another call begins while one is open
@@ -227,7 +238,7 @@ skipped_at hand history before x c is fits open_call begins =
     let last : c.number + 1 ≡ f.calls = of_open (λ (k : Call). k.number + 1 ≡ f.calls) f.call c is.last open_call in
     let rises : f.calls ≤ (call_from (says_of x)).number = fits.rises begins in
     let first : kind_of x == began ≡ true = eq-eqb (kind_of x) began begins in
-    subst (λ (b : Bool). IsSkipped c.number (cond b (after_began f x) (cond (kind_of x == entered) (after_entered f x) (after_other f x)))) (sym first)
+    subst (λ (b : Bool). IsSkipped c.number (cond b (after_began f x) (cond (kind_of x == entered) (after_entered f x) (cond (kind_of x == over) (after_over f x) (after_other f x))))) (sym first)
     (record {
       none = of_open (λ (k : Call). list_any (ends_as k.number) f.entries ≡ false) f.call c is.none open_call;
       past = omega (arith, last, rises);

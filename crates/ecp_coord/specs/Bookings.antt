@@ -17,7 +17,7 @@ use Rattle.ecp_sequencer.specs.Sequencers.{SequencerState}
 
 -- the kind of a note of a reservation, or of a later attempt of it
 abbrev pub reserved : ℕ
-reserved = 3
+reserved = 4
 
 -- whether a note is of that kind
 abbrev pub is_reserved : List ℕ → Bool

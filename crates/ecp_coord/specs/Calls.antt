@@ -12,12 +12,14 @@ use Rattle.ecp_entry.specs.ReadBack.{line_with, entry_with}
 use Rattle.ecp_sequencer.specs.declared.limits.TheConstants.{ROOM}
 use Rattle.ecp_sequencer.specs.Notes.{note, beginning_of, entering_of}
 use Rattle.ecp_sequencer.specs.Facts.{facts_of, room_noted}
-use Rattle.ecp_sequencer.specs.Passes.{PassState}
+use Rattle.ecp_sequencer.specs.Passes.{IsWhole, PassState}
 use Rattle.ecp_sequencer.specs.Sequencers.{SequencerState}
 use Rattle.ecp_sequencer.specs.Steps.{Event, call_with}
 
--- the pass's last `begin` began a call that asks for this, which has not ended, and its hand has room for an entry
+-- The pass is its caller's own, with all its spare hands. Its last `begin` began a call that asks for this, which has not ended, and its hand
+-- has room for an entry
 pub record IsOpen (p : PassState) (asked : Deed) : Type 0 where
+  pub whole : IsWhole p
   pub begun : 1 ≤ p.calls
   pub call : (facts_of p.notes).call ≡ Some (call_with (p.calls - 1) asked)
   pub room : 1 ≤ room_noted p.notes

@@ -50,7 +50,7 @@ use Rattle.ecp_coord.specs.Voids.{AreVoids, positions_of}
 
 -- the kind of a note of a plan, or of a later attempt of it
 abbrev pub planned : ℕ
-planned = 2
+planned = 3
 
 -- what such a note says: all that the plan has, but for its front, which is the history at its point
 abbrev pub plan_says : {N : Type 0} → Plan N → List ℕ

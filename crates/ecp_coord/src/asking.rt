@@ -12,6 +12,7 @@ ghost use Rattle.ecp_history.specs.table.Tables.{live_rows};
 ghost use Rattle.ecp_catalog.specs.Outline.{IsOutline};
 ghost use Rattle.ecp_sequencer.specs.Sequencers.{Agrees};
 ghost use Rattle.ecp_sequencer.specs.Steps.{Event};
+ghost use Rattle.ecp_sequencer.specs.Passes.{IsWhole};
 ghost use Rattle.ecp_coord.specs.Calls.{EndsAny, HasOpen, IsOpen, closing};
 ghost use Rattle.ecp_coord.specs.Plans.{Answers, CanPlan, IsOfFile, IsSought, Plans, RefusesPlan, index_of, is_recoverable, part_for, refusal_of, sought, sought_block};
 
@@ -50,6 +51,7 @@ impl<N: Names> Coord<N> {
         ensures err { IfErr result (λ why. RefusesPlan N.shape N.told self.old pass.old (part_for ask.entry) (refusal_of why) self.new pass.new) }
         ensures answer { (file : List ℕ) → IsOfFile pass.old ask.entry file →
             Answers (sought N.shape (told_table N.shape self.old.sequence.history) file (index_of ask.entry)) result }
+        ensures whole { IsWhole pass.new }
     {
         match ask {
             Ask::Read { name, index } | Ask::Sum { name, index } => {

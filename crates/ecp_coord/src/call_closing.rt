@@ -1,6 +1,7 @@
 //! The event that ends a call by its parts.
 ghost use Rattle.std.specs.Prelude.{◌≡◌};
 ghost use Rattle.ecp_entry.specs.declared.deed.Deed.{Deed};
+ghost use Rattle.ecp_sequencer.specs.Passes.{IsWhole};
 ghost use Rattle.ecp_coord.specs.Calls.{Ends, IsOpen};
 ghost use Rattle.ecp_coord.specs.Closing.{MayClose};
 
@@ -19,6 +20,7 @@ impl<N: Names> Coord<N> {
         ensures event { (asked : Deed) → IsOpen pass.old asked →
             Ends N.shape N.told self.old.sequence pass.old asked act self.new.sequence pass.new }
         ensures rest { self.new ≡ record self.old { sequence = self.new.sequence } }
+        ensures whole { IsWhole pass.new }
     {
         self.sequencer.meet(book, pass);
         let point = self.sequencer.len();

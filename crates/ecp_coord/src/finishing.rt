@@ -1,6 +1,7 @@
 //! The event that ends a part of a call with the bytes of its block.
 ghost use Rattle.std.specs.Prelude.{◌≡◌};
 ghost use Rattle.ecp_history.specs.Fronts.{IsBlockIn};
+ghost use Rattle.ecp_sequencer.specs.Passes.{IsWhole};
 ghost use Rattle.ecp_coord.specs.Plans.{Finishes, IsPlanned};
 
 use crate::Pass;
@@ -19,6 +20,7 @@ impl<N: Names> Coord<N> {
         requires bytes { IsBlockIn N.shape N.told plan.old.front.items plan.old.stripe plan.old.row bytes.now }
         ensures done { Finishes N.shape N.told self.old pass.old plan.old bytes.now self.new pass.new }
         ensures plan { plan.new ≡ plan.old }
+        ensures whole { IsWhole pass.new }
     {
         self.sequencer.meet(book, pass);
         self.sequencer.meet_front(book, &mut plan.front);

@@ -11,7 +11,7 @@
 //! The layer above may rely on what each event says of the pass (`specs/Calls.antt`, and `Event` and `Called` of
 //! `ecp_sequencer`), on its answer by the table of the history before it (`specs/Losing.antt`, `specs/Joining.antt`,
 //! `specs/Stating.antt`, `specs/Opening.antt`), and on what `settle` and `close` teach at the end. A call that is read part
-//! by part ends by the parts that stand in its pass's front (`specs/Closing.antt`). Room is taken by `new` and `begin` alone.
+//! by part ends by the parts that stand in its pass's front (`specs/Closing.antt`). Room is taken by `new`, `begin`, `plan` and `reserve_put` alone.
 #![tactic(auto)]
 
 mod ask;

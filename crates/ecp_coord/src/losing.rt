@@ -7,6 +7,7 @@ ghost use Rattle.ecp_history.specs.Fronts.{told_table};
 ghost use Rattle.ecp_history.specs.table.Steps.{table_of};
 ghost use Rattle.ecp_catalog.specs.Catalogs.{losses_of, spare_of};
 ghost use Rattle.ecp_catalog.specs.Outline.{IsOutline};
+ghost use Rattle.ecp_sequencer.specs.Passes.{IsWhole};
 ghost use Rattle.ecp_coord.specs.Calls.{Ends, IsOpen};
 ghost use Rattle.ecp_coord.specs.Losing.{CanLose, act_of, after_losing, found_by_losing};
 
@@ -27,6 +28,7 @@ impl<N: Names> Coord<N> {
         ensures event { Ends N.shape N.told self.old.sequence pass.old (Lose node) (act_of result) self.new.sequence pass.new }
         ensures answer { result ≡ found_by_losing N.shape (told_table N.shape self.old.sequence.history) node }
         ensures rest { self.new ≡ record self.old { sequence = self.new.sequence } }
+        ensures whole { IsWhole pass.new }
     {
         self.sequencer.meet(book, pass);
         let position = self.sequencer.len();

@@ -10,6 +10,7 @@ ghost use Rattle.ecp_history.specs.Legal.{MayFollow};
 ghost use Rattle.ecp_history.specs.table.Steps.{table_of};
 ghost use Rattle.ecp_catalog.specs.Outline.{IsOutline};
 ghost use Rattle.ecp_sequencer.specs.Sequencers.{Agrees};
+ghost use Rattle.ecp_sequencer.specs.Passes.{IsWhole};
 ghost use Rattle.ecp_coord.specs.Calls.{IsFresh, IsOpen};
 ghost use Rattle.ecp_coord.specs.Opening.{Opens, found_by_opening, opening};
 
@@ -34,6 +35,7 @@ impl<N: Names> Coord<N> {
         ensures event { Opens N.shape N.told self.old.sequence pass.old name.now result self.new.sequence pass.new }
         ensures answer { result ≡ found_by_opening N.shape (told_table N.shape self.old.sequence.history) name.now }
         ensures rest { self.new ≡ record self.old { sequence = self.new.sequence } }
+        ensures whole { IsWhole pass.new }
     {
         let name = Name::new(name);
         self.sequencer.meet(book, pass);

@@ -4,6 +4,7 @@ ghost use Rattle.ecp_shape.specs.declared.limits.TheConstants.{MAX_SESSIONS};
 ghost use Rattle.ecp_entry.specs.declared.act.Act.TheVariants as act;
 ghost use Rattle.ecp_entry.specs.declared.deed.Deed.TheVariants.{Put};
 ghost use Rattle.ecp_history.specs.Legal.{MayFollow};
+ghost use Rattle.ecp_sequencer.specs.Passes.{IsWhole};
 ghost use Rattle.ecp_coord.specs.Calls.{ended};
 ghost use Rattle.ecp_coord.specs.Refusals.{Refuses};
 ghost use Rattle.ecp_entry.specs.Told.{history_of};
@@ -37,6 +38,7 @@ impl<N: Names> Coord<N> {
         ensures answer { SaysPublished (found_by_publishing N.shape (history_of self.old.sequence.history) res.old) result }
         ensures done { DidPublish N.shape N.told self.old pass.old res.old content.now receipts.items self.new pass.new result }
         ensures res { res.new ≡ res.old }
+        ensures whole { IsWhole pass.new }
     {
         if !self.catalog.is_free(&res.name) {
             self.end_taken(book, pass, res);

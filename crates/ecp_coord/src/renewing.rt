@@ -6,6 +6,7 @@ ghost use Rattle.ecp_entry.specs.declared.entry.Entry.{Entry};
 ghost use Rattle.ecp_entry.specs.Told.{history_of};
 ghost use Rattle.ecp_history.specs.table.Steps.{table_of};
 ghost use Rattle.ecp_catalog.specs.Outline.{IsOutline};
+ghost use Rattle.ecp_sequencer.specs.Passes.{IsWhole};
 ghost use Rattle.ecp_coord.specs.declared.renewed.Renewed.TheVariants.{Again};
 ghost use Rattle.ecp_coord.specs.Puts.{DidRenew, GivesUpPlaces, IsOvertaken, IsReserved, Renews, end_of, found_anew, found_by_renewing};
 ghost use Rattle.ecp_coord.specs.Voids.{with_void};
@@ -33,6 +34,7 @@ impl<N: Names> Coord<N> {
         requires { IsReserved N.shape N.told pass.old res.old }
         ensures answer { result ≡ found_by_renewing N.shape (history_of self.old.sequence.history) res.old }
         ensures done { DidRenew N.shape N.told self.old pass.old res.old res.new self.new pass.new result }
+        ensures whole { IsWhole pass.new }
     {
         let Some(at) = self.catalog.first_loss_among(res.up, res.point) else {
             let (name, len) = (res.name, res.len);

@@ -11,6 +11,7 @@ ghost use Rattle.ecp_sequencer.specs.Facts.{room_noted};
 ghost use Rattle.ecp_sequencer.specs.Notes.{note};
 ghost use Rattle.ecp_sequencer.specs.Sequencers.{Agrees};
 ghost use Rattle.ecp_sequencer.specs.Steps.{Event};
+ghost use Rattle.ecp_sequencer.specs.Passes.{IsWhole};
 ghost use Rattle.ecp_coord.specs.Attempts.{IsNext};
 ghost use Rattle.ecp_coord.specs.Helping.{CanHelp};
 ghost use Rattle.ecp_coord.specs.Plans.{Did, IsPlanned, block_of, found_by_moving, found_by_replanning, planning_of};
@@ -41,6 +42,7 @@ impl<N: Names> Coord<N> {
         requires { IsPlanned N.shape N.told pass.old plan.old }
         ensures answer { result ≡ found_by_replanning N.shape (history_of self.old.sequence.history) plan.old }
         ensures done { Did N.shape N.told self.old pass.old plan.old plan.new self.new pass.new result }
+        ensures whole { IsWhole pass.new }
     {
         self.sequencer.meet(book, pass);
         self.sequencer.meet_front(book, &mut plan.front);

@@ -3,6 +3,7 @@ ghost use Rattle.std.specs.Prelude.{◌≡◌, ◌≤◌, length, IfErr, IfOk, O
 ghost use Rattle.ecp_shape.specs.declared.limits.TheConstants.{MAX_NAME};
 ghost use Rattle.ecp_entry.specs.declared.deed.Deed.TheVariants.{Put};
 ghost use Rattle.ecp_history.specs.Fronts.{told_table};
+ghost use Rattle.ecp_sequencer.specs.Passes.{IsWhole};
 ghost use Rattle.ecp_coord.specs.Calls.{IsFresh, IsOpen};
 ghost use Rattle.ecp_coord.specs.Puts.{AnswersPlaces, Reserves, hindered, refusal_of};
 ghost use Rattle.ecp_coord.specs.Refusals.{Refuses};
@@ -36,6 +37,7 @@ impl<N: Names> Coord<N> {
         ensures named { IfOk result (λ res. (res.name ≡ name.now) × (res.len ≡ len)) }
         ensures err { IfErr result (λ why. Refuses N.shape N.told self.old pass.old (Put name.now len) (refusal_of why) self.new pass.new) }
         ensures answer { AnswersPlaces (hindered N.shape (told_table N.shape self.old.sequence.history) name.now) result }
+        ensures whole { IsWhole pass.new }
     {
         let name = Name::new(name);
         if let Some(why) = hindrance(&self.catalog, &name) {

@@ -11,6 +11,7 @@ ghost use Rattle.ecp_history.specs.table.Tables.{file_of, live_rows};
 ghost use Rattle.ecp_catalog.specs.declared.limits.TheConstants.{END_OF_STRIPES};
 ghost use Rattle.ecp_catalog.specs.Catalogs.{plain};
 ghost use Rattle.ecp_catalog.specs.Outline.{IsOutline};
+ghost use Rattle.ecp_sequencer.specs.Passes.{IsWhole};
 ghost use Rattle.ecp_coord.specs.Calls.{Ends, IsOpen};
 ghost use Rattle.ecp_coord.specs.Stating.{HasNumbers, found_by_stating};
 
@@ -34,6 +35,7 @@ impl<N: Names> Coord<N> {
         ensures event { Ends N.shape N.told self.old.sequence pass.old (Stat name.now) result self.new.sequence pass.new }
         ensures answer { result ≡ found_by_stating N.shape (told_table N.shape self.old.sequence.history) name.now }
         ensures rest { self.new ≡ record self.old { sequence = self.new.sequence } }
+        ensures whole { IsWhole pass.new }
     {
         let name = Name::new(name);
         self.sequencer.meet(book, pass);

@@ -12,6 +12,7 @@ use Rattle.ecp_plan.specs.declared.plan.Plan.{Plan}
 use Rattle.ecp_sequencer.specs.Facts.{HandFacts, facts_of, room_noted}
 use Rattle.ecp_sequencer.specs.Passes.{PassState}
 use Rattle.ecp_sequencer.proofs.NoteLaws.{facts-other}
+use Rattle.ecp_sequencer.proofs.StepLaws.{steps_whole}
 use Rattle.ecp_coord.specs.Coords.{CoordState}
 use Rattle.ecp_coord.specs.Plans.{IsPlanned, Moves, Did, found_by_replanning, planning_of, voids_plan}
 use Rattle.ecp_coord.specs.Plans as plans
@@ -44,7 +45,7 @@ module _ (shape : Shape) (told : Bool) {N : Type 0} where
       let notes : w.notes ≡ v.notes = s.steps.noted ∙ append-nil v.notes in
       record {
         goes = record { steps = inr ([], s.steps); call = (s.calls, ap (λ (ns : Log). (facts_of ns).call) notes) };
-        planned = subst (IsPlanned shape told w) (sym s.same) (planned_by shape told v w old notes s.steps.caller s.steps.hand s.calls planned);
+        planned = subst (IsPlanned shape told w) (sym s.same) (planned_by shape told v w old notes s.steps.caller s.steps.hand s.calls (steps_whole v w [] [] s.steps planned.is_open.whole) planned);
         later = subst (IsLater old) (sym s.same) (record { repair = refl; part = refl; stripe = refl; row = refl; point = omega arith });
       }
 
@@ -96,7 +97,7 @@ module _ (shape : Shape) (told : Bool) {N : Type 0} where
             front = e.event.front ∙ e.event.history;
             legal = e.event.legal;
             calls = e.calls;
-            stays = stays_open v w e.asked old.part (length s.sequence.history) (length s.sequence.history) 2 what [] e.is_open e.event.steps.noted e.calls (omega arith)
+            stays = stays_open v w e.asked old.part (length s.sequence.history) (length s.sequence.history) 2 what [] e.is_open e.event.steps.noted e.calls (steps_whole v w _ _ e.event.steps e.is_open.whole) (omega arith)
                 (omega (arith, planned.room, planned.most));
           };
           moves = p.moves;

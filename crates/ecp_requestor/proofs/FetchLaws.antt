@@ -14,9 +14,9 @@ use Rattle.ecp_entry.specs.Items.{item}
 use Rattle.ecp_entry.specs.ReadBack.{line_with, entry_with}
 use Rattle.ecp_plan.specs.declared.plan.Plan.{Plan}
 use Rattle.ecp_sequencer.specs.Facts.{room_noted}
-use Rattle.ecp_sequencer.specs.Passes.{PassState}
+use Rattle.ecp_sequencer.specs.Passes.{IsWhole, PassState}
 use Rattle.ecp_sequencer.specs.Steps.{Steps, call_with}
-use Rattle.ecp_sequencer.proofs.StepLaws.{steps_both}
+use Rattle.ecp_sequencer.proofs.StepLaws.{steps_both, whole_by}
 use Rattle.ecp_coord.specs.Calls.{IsOpen, closing}
 use Rattle.ecp_requestor.specs.Crews.{SameCall}
 use Rattle.ecp_requestor.specs.Fetching.{GoesOn, Advances, Ended, Fetches}
@@ -45,8 +45,9 @@ same_entry : (u v : PassState) (asked : Deed) (at : Part) (position : ℕ) (what
 same_entry u v asked at position what caller calls =
     ap (λ (n : ℕ). entry_of n v.calls asked at position what) caller ∙ ap (λ (n : ℕ). entry_of u.caller n asked at position what) calls
 
-same_open : (u v : PassState) (asked : Deed) → 1 ≤ room_noted u.notes → SameCall u v → IsOpen v asked → IsOpen u asked
-same_open u v asked room same is = record {
+same_open : (u v : PassState) (asked : Deed) → 1 ≤ room_noted u.notes → SameCall u v → IsWhole u → IsOpen v asked → IsOpen u asked
+same_open u v asked room same whole is = record {
+  whole = whole;
   begun = omega (arith, is.begun, same.0);
   call = sym same.1 ∙ is.call ∙ ap (λ (n : ℕ). Some (call_with (n - 1) asked)) same.0;
   room = room;
@@ -60,7 +61,7 @@ module _ (shape : Shape) (told : Bool) where
         before,
         record {
           asked = e.asked;
-          is_open = same_open u v e.asked room same e.is_open;
+          is_open = same_open u v e.asked room same (whole_by v u (sym s.caller) (sym s.hand) (sym s.places) (sym s.spare) e.is_open.whole) e.is_open;
           begins = prefix_trans u.front v.front before s.extends e.begins;
           more = more ++ e.more;
           steps = subst (λ (x : Entry). Steps u (x ∷ []) (more ++ e.more) w) is (steps_both u v w [] (by ∷ []) more e.more s e.steps);

@@ -8,8 +8,8 @@ use Rattle.std.proofs.lemmas.List.Elements.{All-nil, All-push, All-weaker}
 use Rattle.std.proofs.lemmas.Option.{slice_get-get_or}
 use Rattle.ecp_book.specs.Logs.{Log}
 use Rattle.ecp_entry.specs.Told.{made_from}
-use Rattle.ecp_sequencer.specs.Notes.{Call, began, entered, kind_of, says_of, call_of, call_from}
-use Rattle.ecp_sequencer.specs.Facts.{HandFacts, after_note, after_began, after_entered, after_other, ends_call, facts_of, entries_noted}
+use Rattle.ecp_sequencer.specs.Notes.{Call, began, entered, over, kind_of, says_of, call_of, call_from}
+use Rattle.ecp_sequencer.specs.Facts.{HandFacts, after_note, after_began, after_entered, after_over, after_other, ends_call, facts_of, entries_noted}
 use Rattle.ecp_sequencer.specs.Histories.{FitsNote, Stands}
 use Rattle.ecp_sequencer.proofs.NoteLaws.{facts_of-none, facts_of-more}
 
@@ -29,23 +29,24 @@ record AreOrdered (f : HandFacts) : Type 0 where
   earlier : f.since ≡ [] → MatchOption f.call ⊤ (λ c. AreBelow c.number f.entries)
 
 -- a note by its kind
-by_kind : (P : HandFacts → Type 0) (f : HandFacts) (x : List ℕ) → (kind_of x ≡ began → P (after_began f x)) → (kind_of x ≡ entered → P (after_entered f x)) → P (after_other f x)
-    → P (after_note f x)
-by_kind P f x on_began on_entered on_other =
+by_kind : (P : HandFacts → Type 0) (f : HandFacts) (x : List ℕ) → (kind_of x ≡ began → P (after_began f x)) → (kind_of x ≡ entered → P (after_entered f x)) → P (after_over f x)
+    → P (after_other f x) → P (after_note f x)
+by_kind P f x on_began on_entered on_over on_other =
+    let late : (b : Bool) → P (cond b (after_over f x) (after_other f x)) = λ b. elim b as (λ v. P (cond v (after_over f x) (after_other f x))) [ true ↦ on_over | false ↦ on_other ] in
     elim (cases_eq (kind_of x) began) [
       | inl same ↦
           let is : kind_of x == began ≡ true = grind (arith, nat_tests) in
-          subst (λ (b : Bool). P (cond b (after_began f x) (cond (kind_of x == entered) (after_entered f x) (after_other f x)))) (sym is) (on_began same)
+          subst (λ (b : Bool). P (cond b (after_began f x) (cond (kind_of x == entered) (after_entered f x) (cond (kind_of x == over) (after_over f x) (after_other f x))))) (sym is) (on_began same)
       | inr apart ↦
           let off : kind_of x == began ≡ false = grind (arith, nat_tests) in
-          subst (λ (b : Bool). P (cond b (after_began f x) (cond (kind_of x == entered) (after_entered f x) (after_other f x)))) (sym off)
+          subst (λ (b : Bool). P (cond b (after_began f x) (cond (kind_of x == entered) (after_entered f x) (cond (kind_of x == over) (after_over f x) (after_other f x))))) (sym off)
           (elim (cases_eq (kind_of x) entered) [
             | inl same ↦
                 let is : kind_of x == entered ≡ true = grind (arith, nat_tests) in
-                subst (λ (b : Bool). P (cond b (after_entered f x) (after_other f x))) (sym is) (on_entered same)
+                subst (λ (b : Bool). P (cond b (after_entered f x) (cond (kind_of x == over) (after_over f x) (after_other f x)))) (sym is) (on_entered same)
             | inr other ↦
                 let none : kind_of x == entered ≡ false = grind (arith, nat_tests) in
-                subst (λ (b : Bool). P (cond b (after_entered f x) (after_other f x))) (sym none) on_other
+                subst (λ (b : Bool). P (cond b (after_entered f x) (cond (kind_of x == over) (after_over f x) (after_other f x)))) (sym none) (late (kind_of x == over))
           ])
     ]
 
@@ -82,6 +83,7 @@ one_more hand history before x is fits =
       last = or_ended (λ c. c.number + 1 ≡ f.calls) (ends_call (says_of x)) f.call is.last;
       earlier = λ none. no_more f.since x none;
     })
+    (record { entries = is.entries; last = tt; earlier = λ none. tt })
     (record { entries = is.entries; last = is.last; earlier = λ none. no_more f.since x none })
 
 ordered_upto : (hand : ℕ) (history notes : Log) → Stands history hand notes → (n : ℕ) → n ≤ length notes → AreOrdered (facts_of (take n notes))
@@ -94,10 +96,19 @@ ordered_upto hand history notes stands (suc n) le =
     let next = one_more hand history (take n notes) x (ordered_upto hand history notes stands n (omega arith)) (stands.fit n x here) in
     subst (λ (ns : Log). AreOrdered (facts_of ns)) (sym whole) (subst (λ (f : HandFacts). AreOrdered f) (sym (facts_of-more (take n notes) x)) next)
 
+ordered : (hand : ℕ) (history notes : Log) → Stands history hand notes → AreOrdered (facts_of notes)
+ordered hand history notes stands =
+    subst (λ (ns : Log). AreOrdered (facts_of ns)) (take_all (length notes) notes (omega arith)) (ordered_upto hand history notes stands (length notes) (omega arith))
+
+-- the open call is the last of those that were counted
+pub open_last : (history notes : Log) (hand : ℕ) (c : Call) → Stands history hand notes → (facts_of notes).call ≡ Some c → c.number + 1 ≡ (facts_of notes).calls
+open_last history notes hand c stands is =
+    let all : AreOrdered (facts_of notes) = ordered hand history notes stands in
+    subst (λ (o : Option Call). MatchOption o ⊤ (λ k. k.number + 1 ≡ (facts_of notes).calls)) is all.last
+
 -- of a call that began and noted nothing yet, the hand has no entry: all are of calls with smaller numbers
 pub begun_alone : (history notes : Log) (hand : ℕ) (c : Call) → Stands history hand notes → (facts_of notes).call ≡ Some c → (facts_of notes).since ≡ []
     → All (λ x. (made_from x).entry.line.call < c.number) (entries_noted notes)
 begun_alone history notes hand c stands is none =
-    let all : AreOrdered (facts_of notes) =
-    subst (λ (ns : Log). AreOrdered (facts_of ns)) (take_all (length notes) notes (omega arith)) (ordered_upto hand history notes stands (length notes) (omega arith)) in
+    let all : AreOrdered (facts_of notes) = ordered hand history notes stands in
     subst (λ (o : Option Call). MatchOption o ⊤ (λ k. AreBelow k.number (entries_noted notes))) is (all.earlier none)

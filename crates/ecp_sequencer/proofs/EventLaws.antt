@@ -56,9 +56,9 @@ module _ (shape : Shape) (told : Bool) (callers spares : ℕ) where
   -- one law for all events
   pub event : (s t : SequencerState) (v w : PassState) (mine : List Entry) (more : Log) → Agrees s v → v.hand < length s.notes
       → IsKept shape told callers spares t.history t.notes → t.history ≡ s.history ++ map (item v.hand) mine → t.notes ≡ set s.notes v.hand w.notes
-      → w.caller ≡ v.caller → w.hand ≡ v.hand → w.spare ≡ v.spare → w.front ≡ t.history → w.notes ≡ v.notes ++ more → v.hand < hands_of callers spares
+      → w.caller ≡ v.caller → w.hand ≡ v.hand → w.places ≡ v.places → w.spare ≡ v.spare → w.front ≡ t.history → w.notes ≡ v.notes ++ more → v.hand < hands_of callers spares
       → Event shape told s v mine more t w
-  event s t v w mine more met within kept history notes caller hand spare front noted in_range =
+  event s t v w mine more met within kept history notes caller hand places spare front noted in_range =
       let here : v.hand ≢ hands_of callers spares = λ same. omega (arith, in_range) in
       let at : notes_at t.notes v.hand ≡ w.notes = ap (λ (ns : List Log). notes_at ns v.hand) notes ∙ get_or-set_same s.notes v.hand w.notes [] within in
       let whole : items_by v.hand t.history ≡ entries_noted w.notes = (kept.stand v.hand here).entries ∙ ap entries_noted at in
@@ -75,6 +75,7 @@ module _ (shape : Shape) (told : Bool) (callers spares : ℕ) where
         steps = record {
           caller = caller;
           hand = hand;
+          places = places;
           spare = spare;
           extends = subst (IsPrefix v.front) (sym front) (prefix_trans v.front s.history t.history met.begins longer);
           known = met.known;
@@ -105,37 +106,37 @@ module _ (shape : Shape) (told : Bool) (callers spares : ℕ) where
   pub renewed : (s : SequencerState) (v : PassState) (log flog taken : ℕ) (history after longer : Log) (journal : Held) (desks : List DeskState) (caller calls : ℕ) (front : Log)
       (own : HandNotes) (spare : List HandNotes)
       → IsSequencer shape told callers spares log history journal desks taken → seen history desks ≡ s
-      → IsPass callers spares flog (pass_seen caller calls front own spare) → pass_seen caller calls front own spare ≡ v → Agrees s v
+      → IsPass callers spares flog (pass_seen spares caller calls front own spare) → pass_seen spares caller calls front own spare ≡ v → Agrees s v
       → after ≡ history → longer ≡ history
-      → Event shape told s v [] [] (seen after desks) (pass_seen caller calls longer own spare)
+      → Event shape told s v [] [] (seen after desks) (pass_seen spares caller calls longer own spare)
   renewed s v log flog taken history after longer journal desks caller calls front own spare is is_s ps is_v met kept whole =
       let hand : own.hand ≡ v.hand = ap (λ (p : PassState). p.hand) is_v in
       let notes : own.notes ≡ v.notes = ap (λ (p : PassState). p.notes) is_v in
       let heard : notes_of desks ≡ s.notes = ap (λ (t : SequencerState). t.notes) is_s in
-      event shape told callers spares s (seen after desks) v (pass_seen caller calls longer own spare) [] [] met
+      event shape told callers spares s (seen after desks) v (pass_seen spares caller calls longer own spare) [] [] met
       (omega (arith, is.kept.hands, ps.in_range, hand, ap (λ (ns : List Log). length ns) heard))
       (subst (λ (xs : Log). IsKept shape told callers spares xs (notes_of desks)) (sym kept) is.kept)
       (kept ∙ ap (λ (t : SequencerState). t.history) is_s ∙ sym (append-nil s.history))
       (heard ∙ notes_same shape told callers spares s.notes v.hand v.notes met.notes ∙ ap (set s.notes v.hand) (sym notes))
-      (ap (λ (p : PassState). p.caller) is_v) hand (ap (λ (p : PassState). p.spare) is_v) (whole ∙ sym kept) (notes ∙ sym (append-nil v.notes))
+      (ap (λ (p : PassState). p.caller) is_v) hand (ap (λ (p : PassState). p.places) is_v) (ap (λ (p : PassState). p.spare) is_v) (whole ∙ sym kept) (notes ∙ sym (append-nil v.notes))
       (omega (arith, ps.in_range, hand))
 
   -- one more note, by a pass whose front is the whole history
   pub noted : (s : SequencerState) (v : PassState) (log flog taken : ℕ) (history : Log) (journal later : Held) (desks : List DeskState) (caller calls next : ℕ) (front : Log)
       (own wrote : HandNotes) (spare : List HandNotes) (n left : ℕ) (d new : DeskState) (point room : ℕ) (what : List ℕ)
       → IsSequencer shape told callers spares log history journal desks taken → seen history desks ≡ s
-      → IsPass callers spares flog (pass_seen caller calls front own spare) → pass_seen caller calls front own spare ≡ record v { front = s.history } → Agrees s v
+      → IsPass callers spares flog (pass_seen spares caller calls front own spare) → pass_seen spares caller calls front own spare ≡ record v { front = s.history } → Agrees s v
       → n ≡ own.hand → d ≡ get_or desks n d → new ≡ record { hand = d.hand; notes = d.notes ++ note point room what ∷ []; room = room }
       → wrote ≡ with_note own (note point room what) → point ≡ length history
       → later.lines ≡ journal.lines → left + d.room ≡ taken + room → left ≤ later.spare → length history + left < 2 ^ 32 - 1
       → FitsNote v.hand s.history v.notes (note (length s.history) room what)
       → entries_noted (v.notes ++ note (length s.history) room what ∷ []) ≡ entries_noted v.notes
-      → (facts_of (v.notes ++ note (length s.history) room what ∷ [])).calls ≤ next
+      → (facts_of (v.notes ++ note (length s.history) room what ∷ [])).calls ≤ next → calls ≤ next
       → IsSequencer shape told callers spares log history later (set desks n new) left
-      × IsPass callers spares flog (pass_seen caller next front wrote spare)
-      × Event shape told s v [] (note (length s.history) room what ∷ []) (seen history (set desks n new)) (pass_seen caller next front wrote spare)
+      × IsPass callers spares flog (pass_seen spares caller next front wrote spare)
+      × Event shape told s v [] (note (length s.history) room what ∷ []) (seen history (set desks n new)) (pass_seen spares caller next front wrote spare)
   noted s v log flog taken history journal later desks caller calls next front own wrote spare n left d new point room what is is_s ps is_v met at_n at is_new is_wrote is_point
-      lines taking fits_lines places fits same numbered =
+      lines taking fits_lines places fits same numbered rises =
       let hand : own.hand ≡ v.hand = ap (λ (p : PassState). p.hand) is_v in
       let notes : own.notes ≡ v.notes = ap (λ (p : PassState). p.notes) is_v in
       let past : history ≡ s.history = ap (λ (t : SequencerState). t.history) is_s in
@@ -168,13 +169,13 @@ module _ (shape : Shape) (told : Bool) (callers spares : ℕ) where
       with_desk shape told callers spares log history history journal later desks taken left n d new is here at (ap (λ (y : DeskState). y.hand) is_new)
       (lines ∙ is.lines) kept (omega (arith, taking, ap (λ (y : DeskState). y.room) is_new)) fits_lines places in (
         sequencer,
-        pass_next callers spares flog flog caller calls next front front own wrote spare ps ps.on_history same_hand (prefix_self front)
+        pass_next callers spares flog flog caller calls next front front own wrote spare ps ps.on_history same_hand (prefix_self front) rises
             (subst (λ (xs : Log). IsPrefix xs (items_by own.hand front)) (ap entries_noted notes ∙ sym same ∙ ap entries_noted (sym writes)) ps.noted)
             (omega (arith, numbered, ap (λ (ns : Log). (facts_of ns).calls) writes)),
-        event shape told callers spares s (seen history (set desks n new)) v (pass_seen caller next front wrote spare) [] (x ∷ []) met within sequencer.kept
+        event shape told callers spares s (seen history (set desks n new)) v (pass_seen spares caller next front wrote spare) [] (x ∷ []) met within sequencer.kept
             (past ∙ sym (append-nil s.history))
             (map-set (λ (y : DeskState). y.notes) desks n new ∙ sym moved ∙ ap (λ (ns : Log). set s.notes v.hand (ns ++ x ∷ [])) met.notes ∙ ap (set s.notes v.hand) (sym writes))
-            (ap (λ (p : PassState). p.caller) is_v) (same_hand ∙ hand) (ap (λ (p : PassState). p.spare) is_v) (fronts ∙ sym past) writes
+            (ap (λ (p : PassState). p.caller) is_v) (same_hand ∙ hand) (ap (λ (p : PassState). p.places) is_v) (ap (λ (p : PassState). p.spare) is_v) (fronts ∙ sym past) writes
             (omega (arith, ps.in_range, hand)),
       )
 
@@ -182,15 +183,15 @@ module _ (shape : Shape) (told : Bool) (callers spares : ℕ) where
   pub entered : (s : SequencerState) (v : PassState) (log flog taken : ℕ) (history after longer : Log) (journal later : Held) (desks : List DeskState) (caller calls : ℕ) (front : Log)
       (own wrote : HandNotes) (spare : List HandNotes) (n left : ℕ) (d new : DeskState) (point room hand new_log new_flog : ℕ) (e : Entry)
       → IsSequencer shape told callers spares log history journal desks taken → seen history desks ≡ s
-      → IsPass callers spares flog (pass_seen caller calls front own spare) → pass_seen caller calls front own spare ≡ v → Agrees s v
+      → IsPass callers spares flog (pass_seen spares caller calls front own spare) → pass_seen spares caller calls front own spare ≡ v → Agrees s v
       → n ≡ own.hand → d ≡ get_or desks n d → new ≡ record { hand = d.hand; notes = d.notes ++ note point room (entering_of hand e) ∷ []; room = room }
       → wrote ≡ with_note own (note point room (entering_of hand e)) → point ≡ length history → hand ≡ own.hand
       → after ≡ history ++ item hand e ∷ [] → longer ≡ after → new_log ≡ log → new_flog ≡ log
       → later.lines ≡ journal.lines ++ e.line ∷ [] → left + d.room ≡ taken + room → left ≤ later.spare → length after + left < 2 ^ 32 - 1
       → IsOwn v.caller v.notes e → MayFollow shape told (history_of s.history) e → HasBytes e
       → IsSequencer shape told callers spares new_log after later (set desks n new) left
-      × IsPass callers spares new_flog (pass_seen caller calls longer wrote spare)
-      × Event shape told s v (e ∷ []) (note (length s.history) room (entering_of v.hand e) ∷ []) (seen after (set desks n new)) (pass_seen caller calls longer wrote spare)
+      × IsPass callers spares new_flog (pass_seen spares caller calls longer wrote spare)
+      × Event shape told s v (e ∷ []) (note (length s.history) room (entering_of v.hand e) ∷ []) (seen after (set desks n new)) (pass_seen spares caller calls longer wrote spare)
   entered s v log flog taken history after longer journal later desks caller calls front own wrote spare n left d new point room hand new_log new_flog e is is_s ps is_v met at_n at is_new is_wrote
       is_point is_hand grows whole same_log on lines taking fits_lines places mine follows bytes =
       let own_is : own.hand ≡ v.hand = ap (λ (p : PassState). p.hand) is_v in
@@ -234,18 +235,18 @@ module _ (shape : Shape) (told : Bool) (callers spares : ℕ) where
       let sequencer : IsSequencer shape told callers spares log after later (set desks n new) left =
       with_desk shape told callers spares log history after journal later desks taken left n d new is here at (ap (λ (y : DeskState). y.hand) is_new)
       printed kept (omega (arith, taking, ap (λ (y : DeskState). y.room) is_new)) fits_lines places in
-      let ev : Event shape told s v (e ∷ []) (x ∷ []) (seen after (set desks n new)) (pass_seen caller calls longer wrote spare) =
-      event shape told callers spares s (seen after (set desks n new)) v (pass_seen caller calls longer wrote spare) (e ∷ []) (x ∷ []) met within sequencer.kept
+      let ev : Event shape told s v (e ∷ []) (x ∷ []) (seen after (set desks n new)) (pass_seen spares caller calls longer wrote spare) =
+      event shape told callers spares s (seen after (set desks n new)) v (pass_seen spares caller calls longer wrote spare) (e ∷ []) (x ∷ []) met within sequencer.kept
       grown
       (map-set (λ (y : DeskState). y.notes) desks n new ∙ sym moved ∙ ap (λ (ns : Log). set s.notes v.hand (ns ++ x ∷ [])) met.notes ∙ ap (set s.notes v.hand) (sym writes))
-      (ap (λ (p : PassState). p.caller) is_v) (same_hand ∙ own_is) (ap (λ (p : PassState). p.spare) is_v) whole writes
+      (ap (λ (p : PassState). p.caller) is_v) (same_hand ∙ own_is) (ap (λ (p : PassState). p.places) is_v) (ap (λ (p : PassState). p.spare) is_v) whole writes
       (omega (arith, ps.in_range, own_is)) in
       let extends : IsPrefix front longer =
       subst (λ (xs : Log). IsPrefix xs longer) (sym (ap (λ (p : PassState). p.front) is_v)) ev.steps.extends in
       let settled : items_by own.hand longer ≡ entries_noted wrote.notes =
       ap (λ (h : ℕ). items_by h longer) own_is ∙ ev.steps.settled in (
         subst (λ (k : ℕ). IsSequencer shape told callers spares k after later (set desks n new) left) (sym same_log) sequencer,
-        pass_next callers spares flog new_flog caller calls calls front longer own wrote spare ps (on ∙ is.on_history) same_hand extends
+        pass_next callers spares flog new_flog caller calls calls front longer own wrote spare ps (on ∙ is.on_history) same_hand extends (omega arith)
             (subst (IsPrefix (entries_noted wrote.notes)) (sym settled) (prefix_self (entries_noted wrote.notes)))
             (omega (arith, ps.numbered, ap (λ (ns : Log). (facts_of ns).calls) writes, ap (λ (f : HandFacts). f.calls) facts, ap (λ (ns : Log). (facts_of ns).calls) notes)),
         ev,
@@ -263,13 +264,13 @@ module _ (shape : Shape) (told : Bool) (callers spares : ℕ) where
   pub noted_one : (s : SequencerState) (v : PassState) (log flog taken : ℕ) (history : Log) (journal : Held) (desks : List DeskState) (caller calls : ℕ) (front : Log)
       (own wrote : HandNotes) (spare : List HandNotes) (n : ℕ) (d new : DeskState) (point room : ℕ) (what : List ℕ)
       → IsSequencer shape told callers spares log history journal desks taken → seen history desks ≡ s
-      → IsPass callers spares flog (pass_seen caller calls front own spare) → pass_seen caller calls front own spare ≡ record v { front = s.history } → Agrees s v
+      → IsPass callers spares flog (pass_seen spares caller calls front own spare) → pass_seen spares caller calls front own spare ≡ record v { front = s.history } → Agrees s v
       → n ≡ own.hand → d ≡ get_or desks n d → new ≡ record { hand = d.hand; notes = d.notes ++ note point room what ∷ []; room = room }
       → wrote ≡ with_note own (note point room what) → point ≡ length history
-      → d.room ≡ room_noted d.notes → room ≡ d.room - 1 → 1 ≤ room_noted v.notes → 2 ≤ slice_index what 0
+      → d.room ≡ room_noted d.notes → room ≡ d.room - 1 → 1 ≤ room_noted v.notes → 3 ≤ slice_index what 0
       → IsSequencer shape told callers spares log history journal (set desks n new) (taken - 1)
-      × IsPass callers spares flog (pass_seen caller calls front wrote spare)
-      × Event shape told s v [] (note (length s.history) (room_noted v.notes - 1) what ∷ []) (seen history (set desks n new)) (pass_seen caller calls front wrote spare)
+      × IsPass callers spares flog (pass_seen spares caller calls front wrote spare)
+      × Event shape told s v [] (note (length s.history) (room_noted v.notes - 1) what ∷ []) (seen history (set desks n new)) (pass_seen spares caller calls front wrote spare)
   noted_one s v log flog taken history journal desks caller calls front own wrote spare n d new point room what is is_s ps is_v met at_n at is_new is_wrote is_point counted less some kind =
       let hand : own.hand ≡ v.hand = ap (λ (p : PassState). p.hand) is_v in
       let in_range : v.hand < hands_of callers spares = omega (arith, ps.in_range, hand) in
@@ -283,43 +284,43 @@ module _ (shape : Shape) (told : Bool) (callers spares : ℕ) where
       noted s v log flog taken history journal journal desks caller calls calls front own wrote spare n (taken - 1) d new point room what is is_s ps is_v met at_n at is_new is_wrote is_point
       refl (omega (arith, less, rooms, some, most)) (omega (arith, is.room.spare)) (omega (arith, is.room.places))
       (fits_other v.hand s.history v.notes room what met.entered kind) (ap (λ (f : HandFacts). f.entries) facts)
-      (omega (arith, ps.numbered, ap (λ (f : HandFacts). f.calls) facts, ap (λ (p : PassState). (facts_of p.notes).calls) is_v)) in (
+      (omega (arith, ps.numbered, ap (λ (f : HandFacts). f.calls) facts, ap (λ (p : PassState). (facts_of p.notes).calls) is_v)) (omega arith) in (
         done.0,
         done.1,
-        subst (λ (k : ℕ). Event shape told s v [] (note (length s.history) k what ∷ []) (seen history (set desks n new)) (pass_seen caller calls front wrote spare)) is_room done.2,
+        subst (λ (k : ℕ). Event shape told s v [] (note (length s.history) k what ∷ []) (seen history (set desks n new)) (pass_seen spares caller calls front wrote spare)) is_room done.2,
       )
 
   -- a note that makes the room full
   pub noted_full : (s : SequencerState) (v : PassState) (log flog taken : ℕ) (history : Log) (journal later : Held) (desks : List DeskState) (caller calls next : ℕ) (front : Log)
       (own wrote : HandNotes) (spare : List HandNotes) (n left : ℕ) (d new : DeskState) (point : ℕ) (what : List ℕ)
       → IsSequencer shape told callers spares log history journal desks taken → seen history desks ≡ s
-      → IsPass callers spares flog (pass_seen caller calls front own spare) → pass_seen caller calls front own spare ≡ record v { front = s.history } → Agrees s v
+      → IsPass callers spares flog (pass_seen spares caller calls front own spare) → pass_seen spares caller calls front own spare ≡ record v { front = s.history } → Agrees s v
       → n ≡ own.hand → d ≡ get_or desks n d → new ≡ record { hand = d.hand; notes = d.notes ++ note point ROOM what ∷ []; room = ROOM }
       → wrote ≡ with_note own (note point ROOM what) → point ≡ length history
       → later.lines ≡ journal.lines → left + d.room ≡ taken + ROOM → left ≤ later.spare → point + left < 2 ^ 32 - 1
       → FitsNote v.hand s.history v.notes (note (length s.history) ROOM what)
       → entries_noted (v.notes ++ note (length s.history) ROOM what ∷ []) ≡ entries_noted v.notes
-      → (facts_of (v.notes ++ note (length s.history) ROOM what ∷ [])).calls ≤ next
+      → (facts_of (v.notes ++ note (length s.history) ROOM what ∷ [])).calls ≤ next → calls ≤ next
       → IsSequencer shape told callers spares log history later (set desks n new) left
-      × IsPass callers spares flog (pass_seen caller next front wrote spare)
-      × Event shape told s v [] (note (length s.history) ROOM what ∷ []) (seen history (set desks n new)) (pass_seen caller next front wrote spare)
+      × IsPass callers spares flog (pass_seen spares caller next front wrote spare)
+      × Event shape told s v [] (note (length s.history) ROOM what ∷ []) (seen history (set desks n new)) (pass_seen spares caller next front wrote spare)
   noted_full s v log flog taken history journal later desks caller calls next front own wrote spare n left d new point what is is_s ps is_v met at_n at is_new is_wrote is_point lines taking
-      fits_lines places fits same numbered =
+      fits_lines places fits same numbered rises =
       noted s v log flog taken history journal later desks caller calls next front own wrote spare n left d new point ROOM what is is_s ps is_v met at_n at is_new is_wrote is_point
-      lines taking fits_lines (omega (arith, places, is_point)) fits same numbered
+      lines taking fits_lines (omega (arith, places, is_point)) fits same numbered rises
 
   -- the note that the next call began
   pub begun : (s : SequencerState) (v : PassState) (log flog taken : ℕ) (history : Log) (journal later : Held) (desks : List DeskState) (caller calls next : ℕ) (front : Log)
       (own wrote : HandNotes) (spare : List HandNotes) (n left : ℕ) (d new : DeskState) (point number : ℕ) (asked : Deed)
       → IsSequencer shape told callers spares log history journal desks taken → seen history desks ≡ s
-      → IsPass callers spares flog (pass_seen caller calls front own spare) → pass_seen caller calls front own spare ≡ record v { front = s.history } → Agrees s v
+      → IsPass callers spares flog (pass_seen spares caller calls front own spare) → pass_seen spares caller calls front own spare ≡ record v { front = s.history } → Agrees s v
       → n ≡ own.hand → d ≡ get_or desks n d → number ≡ calls
       → new ≡ record { hand = d.hand; notes = d.notes ++ note point ROOM (beginning_of (call_with number asked)) ∷ []; room = ROOM }
       → wrote ≡ with_note own (note point ROOM (beginning_of (call_with number asked))) → point ≡ length history
       → later.lines ≡ journal.lines → left + d.room ≡ taken + ROOM → left ≤ later.spare → point + left < 2 ^ 32 - 1 → next ≡ number + 1
       → IsSequencer shape told callers spares log history later (set desks n new) left
-      × IsPass callers spares flog (pass_seen caller next front wrote spare)
-      × Event shape told s v [] (note (length s.history) ROOM (beginning_of (call_with v.calls asked)) ∷ []) (seen history (set desks n new)) (pass_seen caller next front wrote spare)
+      × IsPass callers spares flog (pass_seen spares caller next front wrote spare)
+      × Event shape told s v [] (note (length s.history) ROOM (beginning_of (call_with v.calls asked)) ∷ []) (seen history (set desks n new)) (pass_seen spares caller next front wrote spare)
   begun s v log flog taken history journal later desks caller calls next front own wrote spare n left d new point number asked is is_s ps is_v met at_n at is_number is_new is_wrote is_point
       lines taking fits_lines places is_next =
       let now : number ≡ v.calls = is_number ∙ ap (λ (p : PassState). p.calls) is_v in
@@ -330,17 +331,17 @@ module _ (shape : Shape) (told : Bool) (callers spares : ℕ) where
       noted_full s v log flog taken history journal later desks caller calls next front own wrote spare n left d new point (beginning_of c) is is_s ps is_v met at_n at is_new is_wrote is_point
       lines taking fits_lines places
       (fits_began v.hand s.history v.notes ROOM c met.entered rises) (ap (λ (f : HandFacts). f.entries) facts)
-      (omega (arith, ap (λ (f : HandFacts). f.calls) facts, is_next)) in (
+      (omega (arith, ap (λ (f : HandFacts). f.calls) facts, is_next)) (omega (arith, is_number, is_next)) in (
         done.0,
         done.1,
-        subst (λ (k : ℕ). Event shape told s v [] (note (length s.history) ROOM (beginning_of (call_with k asked)) ∷ []) (seen history (set desks n new)) (pass_seen caller next front wrote spare)) now done.2,
+        subst (λ (k : ℕ). Event shape told s v [] (note (length s.history) ROOM (beginning_of (call_with k asked)) ∷ []) (seen history (set desks n new)) (pass_seen spares caller next front wrote spare)) now done.2,
       )
 
   -- an entry in one place of the room
   pub entered_one : (s : SequencerState) (v : PassState) (log flog taken : ℕ) (history after longer : Log) (journal later : Held) (desks : List DeskState) (caller calls : ℕ) (front : Log)
       (own wrote : HandNotes) (spare : List HandNotes) (n : ℕ) (d new : DeskState) (point room hand new_log new_flog : ℕ) (e : Entry)
       → IsSequencer shape told callers spares log history journal desks taken → seen history desks ≡ s
-      → IsPass callers spares flog (pass_seen caller calls front own spare) → pass_seen caller calls front own spare ≡ v → Agrees s v
+      → IsPass callers spares flog (pass_seen spares caller calls front own spare) → pass_seen spares caller calls front own spare ≡ v → Agrees s v
       → n ≡ own.hand → d ≡ get_or desks n d → new ≡ record { hand = d.hand; notes = d.notes ++ note point room (entering_of hand e) ∷ []; room = room }
       → wrote ≡ with_note own (note point room (entering_of hand e)) → point ≡ length history → hand ≡ own.hand
       → after ≡ history ++ item hand e ∷ [] → longer ≡ after → new_log ≡ log → new_flog ≡ log
@@ -348,8 +349,8 @@ module _ (shape : Shape) (told : Bool) (callers spares : ℕ) where
       → d.room ≡ room_noted d.notes → room ≡ d.room - 1 → 1 ≤ room_noted v.notes
       → IsOwn v.caller v.notes e → MayFollow shape told (history_of s.history) e → HasBytes e
       → IsSequencer shape told callers spares new_log after later (set desks n new) (taken - 1)
-      × IsPass callers spares new_flog (pass_seen caller calls longer wrote spare)
-      × Event shape told s v (e ∷ []) (note (length s.history) (room_noted v.notes - 1) (entering_of v.hand e) ∷ []) (seen after (set desks n new)) (pass_seen caller calls longer wrote spare)
+      × IsPass callers spares new_flog (pass_seen spares caller calls longer wrote spare)
+      × Event shape told s v (e ∷ []) (note (length s.history) (room_noted v.notes - 1) (entering_of v.hand e) ∷ []) (seen after (set desks n new)) (pass_seen spares caller calls longer wrote spare)
   entered_one s v log flog taken history after longer journal later desks caller calls front own wrote spare n d new point room hand new_log new_flog e is is_s ps is_v met at_n at is_new is_wrote
       is_point is_hand grows whole same_log on lines took counted less some mine follows bytes =
       let own_is : own.hand ≡ v.hand = ap (λ (p : PassState). p.hand) is_v in
@@ -366,5 +367,5 @@ module _ (shape : Shape) (told : Bool) (callers spares : ℕ) where
       (omega (arith, is.room.places, longer_by, rooms, some, most)) mine follows bytes in (
         done.0,
         done.1,
-        subst (λ (k : ℕ). Event shape told s v (e ∷ []) (note (length s.history) k (entering_of v.hand e) ∷ []) (seen after (set desks n new)) (pass_seen caller calls longer wrote spare)) is_room done.2,
+        subst (λ (k : ℕ). Event shape told s v (e ∷ []) (note (length s.history) k (entering_of v.hand e) ∷ []) (seen after (set desks n new)) (pass_seen spares caller calls longer wrote spare)) is_room done.2,
       )

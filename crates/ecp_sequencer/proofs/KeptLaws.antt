@@ -24,7 +24,7 @@ use Rattle.ecp_history.proofs.FrontLaws.{legal_more}
 use Rattle.ecp_history.proofs.CountLaws.{counted_more}
 use Rattle.ecp_history.proofs.LegalLaws.{get_split}
 use Rattle.ecp_sequencer.specs.Hands.{hands_of, IsHandOf}
-use Rattle.ecp_sequencer.specs.Notes.{Call, call_of, note, point_of, beginning_of, entering_of}
+use Rattle.ecp_sequencer.specs.Notes.{Call, call_of, note, point_of, beginning_of, being_over, entering_of}
 use Rattle.ecp_sequencer.specs.Facts.{facts_of, entries_noted}
 use Rattle.ecp_sequencer.specs.Histories.{FitsMaker, FitsNote, AllFit, Stands, IsKept, notes_at}
 use Rattle.ecp_sequencer.proofs.NoteLaws.{call_from-beginning, facts-entered}
@@ -79,14 +79,22 @@ fits_began hand history notes room c stands rises = record {
   of_call = λ off. absurd (omega arith);
 }
 
-pub fits_other : (hand : ℕ) (history notes : Log) (room : ℕ) (what : List ℕ) → items_by hand history ≡ entries_noted notes → 2 ≤ slice_index what 0
+-- a note of neither a beginning nor an entry
+fits_late : (hand : ℕ) (history notes : Log) (room : ℕ) (what : List ℕ) → items_by hand history ≡ entries_noted notes → 2 ≤ slice_index what 0
     → FitsNote hand history notes (note (length history) room what)
-fits_other hand history notes room what stands kind = record {
+fits_late hand history notes room what stands kind = record {
   within = omega arith;
   stamped = ap (items_by hand) (take_all (length history) history (omega arith)) ∙ stands;
   rises = λ off. absurd (omega arith);
   of_call = λ off. absurd (omega arith);
 }
+
+pub fits_over : (hand : ℕ) (history notes : Log) (room : ℕ) → items_by hand history ≡ entries_noted notes → FitsNote hand history notes (note (length history) room being_over)
+fits_over hand history notes room stands = fits_late hand history notes room being_over stands (omega arith)
+
+pub fits_other : (hand : ℕ) (history notes : Log) (room : ℕ) (what : List ℕ) → items_by hand history ≡ entries_noted notes → 3 ≤ slice_index what 0
+    → FitsNote hand history notes (note (length history) room what)
+fits_other hand history notes room what stands kind = fits_late hand history notes room what stands (omega (arith, kind))
 
 pub fits_entering : (hand : ℕ) (history notes : Log) (room : ℕ) (e : Entry) → items_by hand history ≡ entries_noted notes → (facts_of notes).call ≡ Some (call_of e)
     → FitsNote hand (history ++ item hand e ∷ []) notes (note (length history) room (entering_of hand e))

@@ -1,9 +1,12 @@
 pub mod NoteLaws
 pub mod AskLaws
 pub mod KeptLaws
+pub mod LentLaws
 pub mod DeskLaws
 pub mod CallLaws
 pub mod StepLaws
 pub mod EventLaws
+pub mod BranchLaws
+pub mod HandLaws
 pub mod StartLaws
 pub mod RoundLaws

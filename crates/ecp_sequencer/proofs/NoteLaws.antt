@@ -12,8 +12,8 @@ use Rattle.ecp_entry.specs.ReadBack.{deed_from, unsized, at}
 use Rattle.ecp_entry.specs.Told.{Made}
 use Rattle.ecp_entry.proofs.EntryLaws.{deed_from-words}
 use Rattle.ecp_entry.proofs.ItemLaws.{unsized-flat_map, made_from-item}
-use Rattle.ecp_sequencer.specs.Notes.{Call, note, says_of, beginning_of, entering_of, call_from}
-use Rattle.ecp_sequencer.specs.Facts.{HandFacts, no_facts, after_note, after_began, after_entered, after_other, is_end, facts_of, room_noted}
+use Rattle.ecp_sequencer.specs.Notes.{Call, note, says_of, beginning_of, being_over, entering_of, call_from}
+use Rattle.ecp_sequencer.specs.Facts.{HandFacts, no_facts, after_note, after_began, after_entered, after_over, after_other, is_end, facts_of, room_noted}
 
 -- a note that a call began gives back the call
 pub call_from-beginning : (c : Call) (point room : ℕ) → call_from (says_of (note point room (beginning_of c))) ≡ c
@@ -62,27 +62,34 @@ facts-entered notes point room hand e =
       room = room;
     }) (made_from-item hand e)
 
--- the kind of a note of the layer above is neither of the others
-other_kind : {X : Type 0} (k : ℕ) (a b c : X) → 2 ≤ k → cond (k == 0) a (cond (k == 1) b c) ≡ c
-other_kind k a b c le =
+-- the facts once the caller ended the call
+pub facts-over : (notes : Log) (point room : ℕ) → facts_of (notes ++ note point room being_over ∷ []) ≡ after_over (facts_of notes) (note point room being_over)
+facts-over notes point room = facts_of-more notes (note point room being_over)
+
+-- the kind of a note of the layer above is none of the others
+other_kind : {X : Type 0} (k : ℕ) (a b c d : X) → 3 ≤ k → cond (k == 0) a (cond (k == 1) b (cond (k == 2) c d)) ≡ d
+other_kind k a b c d le =
     let first : k == 0 ≡ false = grind (arith, nat_tests) in
     let second : k == 1 ≡ false = grind (arith, nat_tests) in
-    rw (first, second) refl
+    let third : k == 2 ≡ false = grind (arith, nat_tests) in
+    rw (first, second, third) refl
 
-pub facts-other : (notes : Log) (point room : ℕ) (what : List ℕ) → 2 ≤ slice_index what 0
+pub facts-other : (notes : Log) (point room : ℕ) (what : List ℕ) → 3 ≤ slice_index what 0
     → facts_of (notes ++ note point room what ∷ []) ≡ after_other (facts_of notes) (note point room what)
-facts-other notes point room what le = facts_of-more notes (note point room what) ∙ other_kind (slice_index what 0) _ _ _ le
+facts-other notes point room what le = facts_of-more notes (note point room what) ∙ other_kind (slice_index what 0) _ _ _ _ le
 
 -- whatever a note says, the hand's room is the one in it
-room_after : (f : HandFacts) (k room : ℕ) (a b c : HandFacts) → a.room ≡ room → b.room ≡ room → c.room ≡ room → (cond (k == 0) a (cond (k == 1) b c)).room ≡ room
-room_after f k room a b c is_a is_b is_c = either (k == 0) (k == 1) where
-  either : (p q : Bool) → (cond p a (cond q b c)).room ≡ room
-  either true q = is_a
-  either false true = is_b
-  either false false = is_c
+room_after : (k room : ℕ) (a b c d : HandFacts) → a.room ≡ room → b.room ≡ room → c.room ≡ room → d.room ≡ room
+    → (cond (k == 0) a (cond (k == 1) b (cond (k == 2) c d))).room ≡ room
+room_after k room a b c d is_a is_b is_c is_d = either (k == 0) (k == 1) (k == 2) where
+  either : (p q r : Bool) → (cond p a (cond q b (cond r c d))).room ≡ room
+  either true q r = is_a
+  either false true r = is_b
+  either false false true = is_c
+  either false false false = is_d
 
 pub room-more : (notes : Log) (point room : ℕ) (what : List ℕ) → room_noted (notes ++ note point room what ∷ []) ≡ room
 room-more notes point room what =
     let f : HandFacts = facts_of notes in
     let x : List ℕ = note point room what in
-    ap (λ (y : HandFacts). y.room) (facts_of-more notes x) ∙ room_after f (slice_index what 0) room (after_began f x) (after_entered f x) (after_other f x) refl refl refl
+    ap (λ (y : HandFacts). y.room) (facts_of-more notes x) ∙ room_after (slice_index what 0) room (after_began f x) (after_entered f x) (after_over f x) (after_other f x) refl refl refl refl

@@ -1,6 +1,6 @@
 -- Calls that name a node that is not there, one behind another.
-use Rattle.std.proofs.Common.{◌≡◌, ℕ, zero, suc, ◌+◌, ◌<◌, ◌≤◌, Bool, true, false, cond, List, [], ◌∷◌, ◌++◌, length, map, Some, refl, sym, ◌∙◌, ap, subst, arith, inl, get_or, set, Result, Ok, Err, below_more, get_or-set_same, get_or-set_other}
-use Rattle.std.specs.Prelude.{nat_lt, All, OnOk, OnErr}
+use Rattle.std.proofs.Common.{◌≡◌, ℕ, zero, suc, ◌+◌, ◌<◌, ◌≤◌, Bool, true, false, cond, List, [], ◌∷◌, ◌++◌, length, Some, refl, sym, ◌∙◌, ap, subst, arith, inl, get_or, set, Result, Ok, Err, below_more, get_or-set_same, get_or-set_other}
+use Rattle.std.specs.Prelude.{nat_lt, OnOk, OnErr}
 use Rattle.std.specs.List.{list_any}
 use Rattle.std.proofs.lemmas.Bool.{false≢true}
 use Rattle.std.proofs.lemmas.List.{length-map, set-get_or, get_or_default}
@@ -179,7 +179,7 @@ pub worked_raised : (u v w : PassState) → Raised u v → Worked v w → Worked
 worked_raised u v w r a = record {
   mine = a.mine;
   more = a.more;
-  steps = steps_raised u v w a.mine a.more (ap (λ (p : PassState). p.caller) r.same) (ap (λ (p : PassState). p.hand) r.same) (ap (λ (p : PassState). p.spare) r.same)
+  steps = steps_raised u v w a.mine a.more (ap (λ (p : PassState). p.caller) r.same) (ap (λ (p : PassState). p.hand) r.same) (ap (λ (p : PassState). p.places) r.same) (ap (λ (p : PassState). p.spare) r.same)
       (ap (λ (p : PassState). p.notes) r.same) r.longer r.noted a.steps;
   numbered = subst (λ (n : ℕ). AreNumbered n a.mine w.calls) (ap (λ (p : PassState). p.calls) r.same) a.numbered;
 }

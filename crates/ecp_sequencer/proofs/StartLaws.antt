@@ -96,21 +96,24 @@ at_start_is shape told callers spares = record {
 none_noted : (hand : ℕ) → IsPrefix (entries_noted []) (items_by hand [])
 none_noted hand = ([], append-nil (entries_noted []) ∙ ap (λ (f : HandFacts). f.entries) facts_of-none)
 
-held_new : (callers spares caller n : ℕ) → caller < callers → n ≤ spares → All (IsHeld callers spares caller []) (new_hands (own_hand spares caller + 1) n)
-held_new callers spares caller zero lt le = All-nil (IsHeld callers spares caller [])
+held_new : (callers spares caller n : ℕ) → caller < callers → n ≤ spares → All (IsHeld callers spares caller 0 []) (new_hands (own_hand spares caller + 1) n)
+held_new callers spares caller zero lt le = All-nil (IsHeld callers spares caller 0 [])
 held_new callers spares caller (suc n) lt le =
     let fits = hands_fit callers spares caller lt in
-    All-push (IsHeld callers spares caller []) (new_hands (own_hand spares caller + 1) n) (record { hand = own_hand spares caller + 1 + n; notes = [] })
+    All-push (IsHeld callers spares caller 0 []) (new_hands (own_hand spares caller + 1) n) (record { hand = own_hand spares caller + 1 + n; notes = [] })
     (held_new callers spares caller n lt (omega arith)) (record {
       own = record { from = omega arith; within = omega arith };
+      spare = omega arith;
       in_range = omega (arith, fits);
       noted = none_noted (own_hand spares caller + 1 + n);
+      numbered = omega (arith, ap (λ (f : HandFacts). f.calls) facts_of-none);
     })
 
 pub first_pass_is : (callers spares caller : ℕ) → caller < callers → caller < MAX_SESSIONS → IsPass callers spares 0 (first_pass spares caller)
 first_pass_is callers spares caller lt session = record {
   on_history = refl;
-  own = refl;
+  places = refl;
+  own = record { from = omega arith; within = omega arith };
   session = session;
   in_range = omega (arith, hands_fit callers spares caller lt);
   noted = none_noted (own_hand spares caller);

@@ -1,8 +1,10 @@
 -- Steps of a pass, one behind another.
-use Rattle.std.proofs.Common.{◌≡◌, ℕ, ◌≤◌, List, [], ◌∷◌, ◌++◌, map, take, drop, Some, refl, sym, ◌∙◌, ap, subst, arith, append-nil, append_assoc}
+use Rattle.std.proofs.Common.{◌≡◌, ℕ, zero, suc, ◌+◌, ◌≤◌, List, [], ◌∷◌, ◌++◌, map, take, drop, Some, refl, sym, ◌∙◌, ap, subst, arith, add-one, append-nil, append_assoc}
 use Rattle.std.specs.Prelude.{All, slice_get}
 use mathlib.Core.List.{IsPrefix}
-use Rattle.std.proofs.lemmas.List.{map-append, take-append-drop}
+use Rattle.std.proofs.lemmas.List.{map-append, map-id, take-append-drop}
+use Rattle.std.proofs.lemmas.List.FromFn.{map-range_with_len_more}
+use Rattle.std.specs.List.{range_with_len}
 use Rattle.std.proofs.lemmas.List.Elements.{All-weaker}
 use Rattle.ecp_book.specs.Logs.{Log, history_log}
 use Rattle.ecp_book.proofs.Prefixes.{prefix_self, prefix_trans, prefix_both}
@@ -10,10 +12,11 @@ use Rattle.ecp_entry.specs.declared.entry.Entry.{Entry}
 use Rattle.ecp_entry.specs.Items.{item}
 use Rattle.ecp_entry.specs.Told.{history_of, items_by, by_hand}
 use Rattle.ecp_entry.proofs.ToldLaws.{history_of-append, history_of-item, items_by-append}
+use Rattle.ecp_sequencer.specs.Hands.{IsHandOf, own_hand}
 use Rattle.ecp_sequencer.specs.Histories.{Stands}
 use Rattle.ecp_sequencer.specs.Notes.{point_of}
 use Rattle.ecp_sequencer.specs.Facts.{facts_of, entries_noted}
-use Rattle.ecp_sequencer.specs.Passes.{HandNotes, PassState, IsHeld, IsPass, pass_seen}
+use Rattle.ecp_sequencer.specs.Passes.{HandNotes, PassState, IsHeld, IsPass, IsWhole, first_pass, new_hands, pass_seen}
 use Rattle.ecp_sequencer.specs.Steps.{Steps}
 use Rattle.ecp_sequencer.proofs.KeptLaws.{items_by-prefix}
 
@@ -22,6 +25,7 @@ pub steps_none : (v : PassState) → items_by v.hand v.front ≡ entries_noted v
 steps_none v known = record {
   caller = refl;
   hand = refl;
+  places = refl;
   spare = refl;
   extends = prefix_self v.front;
   known = known;
@@ -37,6 +41,7 @@ steps_both u v w mine theirs more others a b =
     record {
       caller = b.caller ∙ a.caller;
       hand = b.hand ∙ a.hand;
+      places = b.places ∙ a.places;
       spare = b.spare ∙ a.spare;
       extends = prefix_trans u.front v.front w.front a.extends b.extends;
       known = a.known;
@@ -49,9 +54,9 @@ steps_both u v w mine theirs more others a b =
     }
 
 -- what a raised pass does, the pass did before it was raised
-pub steps_raised : (u v w : PassState) (mine : List Entry) (more : Log) → v.caller ≡ u.caller → v.hand ≡ u.hand → v.spare ≡ u.spare → v.notes ≡ u.notes
+pub steps_raised : (u v w : PassState) (mine : List Entry) (more : Log) → v.caller ≡ u.caller → v.hand ≡ u.hand → v.places ≡ u.places → v.spare ≡ u.spare → v.notes ≡ u.notes
     → IsPrefix u.front v.front → IsPrefix (entries_noted u.notes) (items_by u.hand u.front) → Steps v mine more w → Steps u mine more w
-steps_raised u v w mine more caller hand spare notes longer noted s =
+steps_raised u v w mine more caller hand places spare notes longer noted s =
     let of_v : (front : Log) → items_by v.hand front ≡ items_by u.hand front = λ front. ap (λ (h : ℕ). items_by h front) hand in
     let whole : items_by u.hand v.front ≡ entries_noted u.notes = sym (of_v v.front) ∙ s.known ∙ ap entries_noted notes in
     let within : IsPrefix (items_by u.hand u.front) (entries_noted u.notes) = subst (IsPrefix (items_by u.hand u.front)) whole (items_by-prefix u.hand u.front v.front longer) in
@@ -59,6 +64,7 @@ steps_raised u v w mine more caller hand spare notes longer noted s =
     record {
       caller = s.caller ∙ caller;
       hand = s.hand ∙ hand;
+      places = s.places ∙ places;
       spare = s.spare ∙ spare;
       extends = prefix_trans u.front v.front w.front longer s.extends;
       known = known;
@@ -68,42 +74,77 @@ steps_raised u v w mine more caller hand spare notes longer noted s =
       settled = sym (of_v w.front) ∙ s.settled;
     }
 
+-- ---- passes that have all their hands
+
+hands_new : (from n : ℕ) → map (λ (h : HandNotes). h.hand) (new_hands from n) ≡ map (λ (k : ℕ). k) (range_with_len from n)
+hands_new from zero = refl
+hands_new from (suc n) =
+    map-append (λ (h : HandNotes). h.hand) (new_hands from n) (record { hand = from + n; notes = [] } ∷ [])
+    ∙ ap (λ (ks : List ℕ). ks ++ (from + n) ∷ []) (hands_new from n)
+    ∙ sym (map-range_with_len_more (λ (k : ℕ). k) from n (from + n) refl) ∙ ap (λ (k : ℕ). map (λ (j : ℕ). j) (range_with_len from k)) (add-one n)
+
+pub first_whole : (spares caller : ℕ) → IsWhole (first_pass spares caller)
+first_whole spares caller = record {
+  own = refl;
+  all = hands_new (own_hand spares caller + 1) spares ∙ map-id (range_with_len (own_hand spares caller + 1) spares);
+}
+
+-- a pass is whole by its caller, its places and its hands alone
+pub whole_by : (v w : PassState) → w.caller ≡ v.caller → w.hand ≡ v.hand → w.places ≡ v.places → w.spare ≡ v.spare → IsWhole v → IsWhole w
+whole_by v w caller hand places spare is = record {
+  own = hand ∙ is.own ∙ ap (own_hand v.places) (sym caller) ∙ ap (λ (n : ℕ). own_hand n w.caller) (sym places);
+  all = ap (map (λ (h : HandNotes). h.hand)) spare ∙ is.all ∙ ap (λ (c : ℕ). range_with_len (own_hand v.places c + 1) v.places) (sym caller)
+      ∙ ap (λ (n : ℕ). range_with_len (own_hand n w.caller + 1) n) (sym places);
+}
+
+-- what a pass does leaves it whole
+pub steps_whole : (v w : PassState) (mine : List Entry) (more : Log) → Steps v mine more w → IsWhole v → IsWhole w
+steps_whole v w mine more s is = whole_by v w s.caller s.hand s.places s.spare is
+
 -- ---- what holds of every pass
 
 module _ (callers spares : ℕ) where
   -- a longer front has all that the hands noted
-  pub held_longer : (caller : ℕ) (front longer : Log) (hands : List HandNotes) → IsPrefix front longer → All (IsHeld callers spares caller front) hands
-      → All (IsHeld callers spares caller longer) hands
-  held_longer caller front longer hands p held =
-      All-weaker (IsHeld callers spares caller front) (IsHeld callers spares caller longer) (λ h is. record {
+  pub held_longer : (caller calls later : ℕ) (front longer : Log) (hands : List HandNotes) → IsPrefix front longer → calls ≤ later
+      → All (IsHeld callers spares caller calls front) hands → All (IsHeld callers spares caller later longer) hands
+  held_longer caller calls later front longer hands p le held =
+      All-weaker (IsHeld callers spares caller calls front) (IsHeld callers spares caller later longer) (λ h is. record {
         own = is.own;
+        spare = is.spare;
         in_range = is.in_range;
         noted = prefix_trans (entries_noted h.notes) (items_by h.hand front) (items_by h.hand longer) is.noted (items_by-prefix h.hand front longer p);
+        numbered = omega (arith, is.numbered, le);
       }) hands held
 
   -- a pass with a longer front, and more notes and calls
   pub pass_next : (log new caller calls later : ℕ) (front longer : Log) (own noted : HandNotes) (spare : List HandNotes)
-      → IsPass callers spares log (pass_seen caller calls front own spare) → new ≡ history_log → noted.hand ≡ own.hand → IsPrefix front longer
+      → IsPass callers spares log (pass_seen spares caller calls front own spare) → new ≡ history_log → noted.hand ≡ own.hand → IsPrefix front longer → calls ≤ later
       → IsPrefix (entries_noted noted.notes) (items_by own.hand longer) → (facts_of noted.notes).calls ≤ later
-      → IsPass callers spares new (pass_seen caller later longer noted spare)
-  pass_next log new caller calls later front longer own noted spare is on same p entries numbered = record {
+      → IsPass callers spares new (pass_seen spares caller later longer noted spare)
+  pass_next log new caller calls later front longer own noted spare is on same p le entries numbered = record {
     on_history = on;
-    own = same ∙ is.own;
+    places = refl;
+    own = subst (IsHandOf spares caller) (sym same) is.own;
     session = is.session;
     in_range = omega (arith, is.in_range, same);
     noted = subst (λ (h : ℕ). IsPrefix (entries_noted noted.notes) (items_by h longer)) (sym same) entries;
     numbered = numbered;
-    held = held_longer caller front longer spare p is.held;
+    held = held_longer caller calls later front longer spare p le is.held;
   }
 
   -- the same with no more notes
   pub pass_longer : (log new caller calls later : ℕ) (front longer : Log) (own : HandNotes) (spare : List HandNotes)
-      → IsPass callers spares log (pass_seen caller calls front own spare) → new ≡ history_log → IsPrefix front longer → calls ≤ later
-      → IsPass callers spares new (pass_seen caller later longer own spare)
+      → IsPass callers spares log (pass_seen spares caller calls front own spare) → new ≡ history_log → IsPrefix front longer → calls ≤ later
+      → IsPass callers spares new (pass_seen spares caller later longer own spare)
   pass_longer log new caller calls later front longer own spare is on p le =
-      pass_next log new caller calls later front longer own own spare is on refl p
+      pass_next log new caller calls later front longer own own spare is on refl p le
       (prefix_trans (entries_noted own.notes) (items_by own.hand front) (items_by own.hand longer) is.noted (items_by-prefix own.hand front longer p))
       (omega (arith, is.numbered, le))
+
+  -- a pass that counts more calls
+  pub pass_counts : (log caller calls later : ℕ) (front : Log) (own : HandNotes) (spare : List HandNotes)
+      → IsPass callers spares log (pass_seen spares caller calls front own spare) → calls ≤ later → IsPass callers spares log (pass_seen spares caller later front own spare)
+  pass_counts log caller calls later front own spare is le = pass_longer log log caller calls later front front own spare is is.on_history (prefix_self front) le
 
 -- ---- what steps say of entries
 

@@ -1,10 +1,11 @@
 -- What is known of a hand: one fold over its notes.
 use Rattle.std.specs.Prelude.{ℕ, ◌+◌, ◌==◌, Bool, true, false, if◌then◌else◌, List, [], ◌∷◌, ◌++◌, fold, Option, Some, None}
+use Rattle.std.specs.Option.{is_some}
 use Rattle.ecp_book.specs.Logs.{Log}
 use Rattle.ecp_entry.specs.declared.part.Part.{Part}
 use Rattle.ecp_entry.specs.declared.part.Part.TheVariants as part
 use Rattle.ecp_entry.specs.Told.{made_from}
-use Rattle.ecp_sequencer.specs.Notes.{Call, began, entered, kind_of, room_of, says_of, call_from}
+use Rattle.ecp_sequencer.specs.Notes.{Call, began, entered, over, kind_of, room_of, says_of, call_from}
 
 -- what is known of a hand
 pub record HandFacts : Type 0 where
@@ -40,6 +41,10 @@ after_began f x = record { calls = (call_from (says_of x)).number + 1; call = So
 abbrev pub after_entered : HandFacts → List ℕ → HandFacts
 after_entered f x = record { calls = f.calls; call = if ends_call (says_of x) then None else f.call; entries = f.entries ++ says_of x ∷ []; since = f.since ++ x ∷ []; room = room_of x }
 
+-- the caller ended the call by its own hand: none is open
+abbrev pub after_over : HandFacts → List ℕ → HandFacts
+after_over f x = record { calls = f.calls; call = None; entries = f.entries; since = f.since ++ x ∷ []; room = room_of x }
+
 -- another note was made
 abbrev pub after_other : HandFacts → List ℕ → HandFacts
 after_other f x = record { calls = f.calls; call = f.call; entries = f.entries; since = f.since ++ x ∷ []; room = room_of x }
@@ -49,6 +54,7 @@ abbrev pub after_note : HandFacts → List ℕ → HandFacts
 after_note f x =
     if kind_of x == began then after_began f x
     else if kind_of x == entered then after_entered f x
+    else if kind_of x == over then after_over f x
     else after_other f x
 
 -- what these notes tell of their hand
@@ -58,6 +64,10 @@ facts_of notes = fold after_note no_facts notes
 -- the items of the entries that a hand noted
 abbrev pub entries_noted : Log → Log
 entries_noted notes = (facts_of notes).entries
+
+-- whether a hand with these notes has an open call
+abbrev pub is_open : Log → Bool
+is_open notes = is_some (facts_of notes).call
 
 -- for how many more entries and notes a hand has room
 abbrev pub room_noted : Log → ℕ

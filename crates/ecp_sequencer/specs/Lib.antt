@@ -6,6 +6,7 @@ pub mod Facts
 pub mod Passes
 pub mod Histories
 pub mod Sequencers
-pub mod Steps
 pub mod Closed
+pub mod Branches
+pub mod Steps
 pub mod Rounds

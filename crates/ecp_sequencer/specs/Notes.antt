@@ -1,4 +1,4 @@
--- What a hand notes: that a call began, an entry that it made, or what the layer above notes.
+-- What a hand notes: that a call began, an entry that it made, that its call is over, or what the layer above notes.
 use Rattle.std.specs.Prelude.{ℕ, List, [], ◌∷◌, drop, flat_map, slice_index, Option}
 use Rattle.ecp_entry.specs.declared.deed.Deed.{Deed}
 use Rattle.ecp_entry.specs.declared.entry.Entry.{Entry}
@@ -13,8 +13,12 @@ began = 0
 abbrev pub entered : ℕ
 entered = 1
 
+-- that the hand's call is over: its caller ended it by its own hand
+abbrev pub over : ℕ
+over = 2
+
 abbrev pub other : ℕ
-other = 2
+other = 3
 
 -- The item of a note: its kind, how long the history was before it, the room of the hand after it, and what it says.
 -- `what` is its kind, and behind that what it says
@@ -50,7 +54,11 @@ beginning_of c = began ∷ c.number ∷ flat_map sized (deed_word c.deed ∷ dee
 abbrev pub entering_of : ℕ → Entry → List ℕ
 entering_of hand e = entered ∷ item hand e
 
--- the call that such a note says began: it reads back what `beginning_of` wrote
+-- that the hand's call is over: it says no more
+abbrev pub being_over : List ℕ
+being_over = over ∷ []
+
+-- the call that a note of a beginning says began: it reads back what `beginning_of` wrote
 unfoldable pub call_from : List ℕ → Call
 call_from says =
     let fields : List (List ℕ) = unsized 3 (drop 1 says) in

@@ -1,4 +1,4 @@
--- What an event, and a whole call, does to a pass.
+-- What an event, and a whole call, does to a pass, and what its spare hands note.
 use Rattle.std.specs.Prelude.{◌≡◌, ℕ, ◌+◌, ◌≤◌, Bool, List, [], ◌∷◌, ◌++◌, length, map, set, All, Some}
 use mathlib.Core.List.{IsPrefix}
 use Rattle.ecp_shape.specs.declared.shape.Shape.{Shape}
@@ -9,16 +9,20 @@ use Rattle.ecp_entry.specs.declared.part.Part.TheVariants as part
 use Rattle.ecp_entry.specs.Items.{item}
 use Rattle.ecp_entry.specs.Told.{items_by}
 use Rattle.ecp_history.specs.Legal.{TellsLegal}
-use Rattle.ecp_sequencer.specs.Notes.{Call, call_of}
+use Rattle.ecp_sequencer.specs.declared.limits.TheConstants.{ROOM}
+use Rattle.ecp_sequencer.specs.Branches.{IsKnown, IsNone, released}
+use Rattle.ecp_sequencer.specs.Histories.{notes_at}
+use Rattle.ecp_sequencer.specs.Notes.{Call, note, beginning_of, call_of}
 use Rattle.ecp_sequencer.specs.Facts.{facts_of, entries_noted}
-use Rattle.ecp_sequencer.specs.Passes.{PassState}
+use Rattle.ecp_sequencer.specs.Passes.{HandNotes, PassState, with_note}
 use Rattle.ecp_sequencer.specs.Sequencers.{SequencerState, Agrees}
 
--- A pass went from v to w: its caller and hand are the same, its front extends, it noted just these notes more, and its new front
+-- A pass went from v to w: its caller, hand and places are the same, its front extends, it noted just these notes more, and its new front
 -- has of its hand just these entries more. Both fronts have of the hand just what was noted
 pub record Steps (v : PassState) (mine : List Entry) (more : Log) (w : PassState) : Type 0 where
   pub caller : w.caller ≡ v.caller
   pub hand : w.hand ≡ v.hand
+  pub places : w.places ≡ v.places
   pub spare : w.spare ≡ v.spare
   pub extends : IsPrefix v.front w.front
   pub known : items_by v.hand v.front ≡ entries_noted v.notes
@@ -35,6 +39,25 @@ pub record Event (shape : Shape) (told : Bool) (s : SequencerState) (v : PassSta
   pub front : w.front ≡ t.history
   pub legal : TellsLegal shape told w.front
   pub agrees : Agrees t w
+
+-- Each spare hand of a pass became what f makes of it, by which a sequencer went from s to t and the pass from v to w. The history
+-- and the notes of all other hands are the same, the new front is the whole history, and each hand is known at its own place
+pub record SparesNoted (f : HandNotes → HandNotes) (s : SequencerState) (v : PassState) (t : SequencerState) (w : PassState) : Type 0 where
+  pub history : t.history ≡ s.history
+  pub pass : w ≡ record v { front = s.history; spare = map f v.spare }
+  pub others : (hand : ℕ) → IsNone v.spare hand → notes_at t.notes hand ≡ notes_at s.notes hand
+  pub agrees : Agrees t w
+  pub spare : All (IsKnown t w.front) w.spare
+
+-- each spare hand has one note more: that the pass's open call began, with room for so many notes
+pub record CallsSpares (s : SequencerState) (v : PassState) (t : SequencerState) (w : PassState) : Type 0 where
+  pub call : Call
+  pub begun : (facts_of v.notes).call ≡ Some call
+  pub noted : SparesNoted (λ h. with_note h (note (length s.history) ROOM (beginning_of call))) s v t w
+
+-- each spare hand whose call was open has one note more: that it is over, with no room
+pub record ReleasesSpares (s : SequencerState) (v : PassState) (t : SequencerState) (w : PassState) : Type 0 where
+  pub noted : SparesNoted (released (length s.history)) s v t w
 
 -- the entry is of this caller, in this call
 pub record IsOfCall (caller : ℕ) (call : Call) (e : Entry) : Type 0 where

@@ -36,7 +36,7 @@ impl<N: Names> Sequencer<N> {
     }
 
     // Meets one hand.
-    fn meet_hand(&mut self, book: &Book<N>, hand: &mut Hand<N>)
+    pub(crate) fn meet_hand(&mut self, book: &Book<N>, hand: &mut Hand<N>)
         requires { hand.old.hand < hands_of N.callers N.spare_hands }
         ensures heard { IsHeard self.old hand.old }
         ensures same { self.new ≡ self.old }

@@ -1,11 +1,11 @@
 //! The event that adds an entry to the history.
-ghost use Rattle.std.specs.Prelude.{◌≡◌, ℕ, ◌-◌, ◌≤◌, [], ◌∷◌, length};
+ghost use Rattle.std.specs.Prelude.{◌≡◌, ℕ, ◌-◌, ◌≤◌, [], ◌∷◌, false, if◌then◌else◌, length};
 ghost use Rattle.ecp_entry.specs.Told.{history_of};
 ghost use Rattle.ecp_history.specs.Files.{HasBytes};
 ghost use Rattle.ecp_history.specs.Legal.{MayFollow};
 ghost use Rattle.ecp_sequencer.specs.EntryRefs.{entry_of};
 ghost use Rattle.ecp_sequencer.specs.Notes.{note, entering_of};
-ghost use Rattle.ecp_sequencer.specs.Facts.{room_noted};
+ghost use Rattle.ecp_sequencer.specs.Facts.{is_end, room_noted};
 ghost use Rattle.ecp_sequencer.specs.Sequencers.{Agrees};
 ghost use Rattle.ecp_sequencer.specs.Steps.{Event, IsOwn};
 
@@ -14,6 +14,7 @@ use crate::note::{Entering, Made};
 use crate::pass::Pass;
 use crate::sequencer::{Sequencer, renew_front};
 use ecp_book::{Book, Names};
+use ecp_entry::Part;
 
 impl<N: Names> Sequencer<N> {
     /// Adds an entry of the pass's open call to the history, in one place of the hand's room. Takes no memory, and copies
@@ -32,10 +33,21 @@ impl<N: Names> Sequencer<N> {
         let point = self.keeper.len();
         let desk = &mut self.desks[usize::from(hand)];
         let room = desk.room() - 1;
-        desk.note(book, &mut pass.hand, &Entering(made), point, room);
+        let opened = leaves_open(entry.line.part, desk.is_open());
+        desk.note(book, &mut pass.hand, &Entering(made), point, room, opened);
         book.append(&mut self.keeper, &made);
         self.journal.add(entry.line);
         self.taken -= 1;
         renew_front(book, &mut self.keeper, &mut pass.front);
+    }
+}
+
+// Whether a call that was open, or not, is open after an entry of this part.
+fn leaves_open(part: Part, opened: bool) -> bool
+    ensures { result ≡ (if is_end part then false else opened) }
+{
+    match part {
+        Part::End => false,
+        Part::Part(_) => opened,
     }
 }

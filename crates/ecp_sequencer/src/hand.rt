@@ -1,4 +1,4 @@
-ghost use Rattle.std.specs.Prelude.{◌≡◌};
+ghost use Rattle.std.specs.Prelude.{◌≡◌, length};
 
 use crate::tie::Tie;
 use ecp_book::Names;
@@ -29,5 +29,12 @@ impl<N: Names> Hand<N> {
         ensures { result ≡ self.now.hand }
     {
         self.number
+    }
+
+    /// How many notes it made.
+    pub(crate) fn len(&self) -> u32
+        ensures { result ≡ length self.now.notes }
+    {
+        self.tie.len()
     }
 }

@@ -8,7 +8,7 @@ ghost use Rattle.ecp_entry.specs.Told.{items_by, by_hand, made_from};
 ghost use Rattle.ecp_sequencer.specs.Notes.{Call, note, point_of, says_of, beginning_of, call_from};
 ghost use Rattle.ecp_sequencer.specs.Facts.{no_facts, after_note, facts_of, entries_noted};
 ghost use Rattle.ecp_sequencer.specs.Histories.{Stands};
-ghost use Rattle.ecp_sequencer.specs.Passes.{PassState};
+ghost use Rattle.ecp_sequencer.specs.Passes.{IsWhole, PassState, first_pass};
 ghost use Rattle.ecp_sequencer.specs.Steps.{Steps};
 
 /// What is known of a hand grows note by note.
@@ -58,4 +58,10 @@ pub fn raised_passes_step_on()
 pub fn steps_add_just_their_entries()
     ensures { (v w : PassState) (mine : List Entry) (more : Log) →
         Steps v mine more w → by_hand v.hand w.front ≡ by_hand v.hand v.front ++ mine }
+{}
+
+/// A pass is whole as it is made, and what it does leaves it whole.
+pub fn passes_stay_whole()
+    ensures first { (spares caller : ℕ) → IsWhole (first_pass spares caller) }
+    ensures steps { (v w : PassState) (mine : List Entry) (more : Log) → Steps v mine more w → IsWhole v → IsWhole w }
 {}

@@ -11,10 +11,13 @@
 //! `specs/Facts.antt` (what the notes of a hand tell) and on `specs/Closed.antt` (what is known at the end).
 #![tactic(auto)]
 
+mod branching;
+mod calling;
 mod close;
 mod desk;
 mod entering;
 mod entry_ref;
+mod gathering;
 mod hand;
 pub mod laws;
 pub mod limits;

@@ -31,16 +31,26 @@ impl<'a> Entered for Entering<'a> {
 
 /// That a call began.
 #[derive(Clone, Copy)]
-pub(crate) struct Beginning<'a> {
+pub(crate) struct Beginning {
     pub(crate) number: u32,
-    pub(crate) deed: &'a Deed,
+    pub(crate) deed: Option<Deed>,
 }
 
-impl<'a> Entered for Beginning<'a> {
+impl Entered for Beginning {
     ghost use Rattle.ecp_sequencer.specs.Notes.{beginning_of};
-    ghost use Rattle.ecp_sequencer.specs.Steps.{call_with};
+    ghost use Rattle.ecp_sequencer.specs.Passes.{call_seen};
 
-    ghost item = { λ b. beginning_of (call_with b.number b.deed.now) };
+    ghost item = { λ b. beginning_of (call_seen b.number b.deed) };
+}
+
+/// That the hand's call is over.
+#[derive(Clone, Copy)]
+pub(crate) struct Over;
+
+impl Entered for Over {
+    ghost use Rattle.ecp_sequencer.specs.Notes.{being_over};
+
+    ghost item = { λ _. being_over };
 }
 
 /// A note: what a hand notes, how long the history is before it, and the hand's room after it.

@@ -36,24 +36,20 @@ impl<N: Names> Sequencer<N> {
         let point = self.keeper.len();
         let desk = &mut self.desks[usize::from(pass.hand.number())];
         let taken = make_room(&mut self.journal, desk, point, self.taken)?;
-        desk.note(
-            book,
-            &mut pass.hand,
-            &Beginning {
-                number,
-                deed: &deed,
-            },
-            point,
-            ROOM,
-        );
-        pass.deed = Some(deed);
+        let began = Beginning {
+            number,
+            deed: Some(deed),
+        };
+        desk.note(book, &mut pass.hand, &began, point, ROOM, true);
+        pass.number = began.number;
+        pass.deed = began.deed;
         self.taken = taken;
         Ok(())
     }
 
     /// Notes what the layer above says of the hand, in one place of its room. Takes no memory.
     ///
-    /// The item of `what` is the kind of the note, from 2 on, and behind that what it says.
+    /// The item of `what` is the kind of the note, from 3 on, and behind that what it says.
     pub fn note<E: Entered>(&mut self, book: &Book<N>, pass: &mut Pass<N>, what: &E)
         requires agree { Agrees self.old pass.old }
         requires room { 1 ≤ room_noted pass.old.notes }
@@ -65,7 +61,8 @@ impl<N: Names> Sequencer<N> {
         let point = self.keeper.len();
         let desk = &mut self.desks[usize::from(pass.hand.number())];
         let room = desk.room() - 1;
-        desk.note(book, &mut pass.hand, what, point, room);
+        let opened = desk.is_open();
+        desk.note(book, &mut pass.hand, what, point, room, opened);
         self.taken -= 1;
     }
 
@@ -88,7 +85,8 @@ impl<N: Names> Sequencer<N> {
         let point = self.keeper.len();
         let desk = &mut self.desks[usize::from(pass.hand.number())];
         let taken = make_room(&mut self.journal, desk, point, self.taken)?;
-        desk.note(book, &mut pass.hand, what, point, ROOM);
+        let opened = desk.is_open();
+        desk.note(book, &mut pass.hand, what, point, ROOM, opened);
         self.taken = taken;
         Ok(())
     }

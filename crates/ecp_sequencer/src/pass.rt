@@ -12,12 +12,14 @@ use std::marker::Model;
 
 /// The token of a caller: how many calls it made, a front, and its hands.
 ///
-/// A front is a beginning of the history. The caller's own hand makes its calls; the spare ones are held for workers. What
-/// the open call asks for is kept too. A pass may go to another thread.
+/// A front is a beginning of the history. The caller's own hand makes its calls; the spare ones are held for workers, and
+/// each can be lent as a branch, which is a pass of that hand. The number of the open call, and what it asks for, are kept
+/// too. A pass may go to another thread.
 #[derive(Drop)]
 pub struct Pass<N: Names> {
     pub(crate) caller: u8,
     pub(crate) calls: u32,
+    pub(crate) number: u32,
     pub(crate) deed: Option<Deed>,
     pub(crate) front: Tag<N>,
     pub(crate) hand: Hand<N>,
@@ -25,13 +27,17 @@ pub struct Pass<N: Names> {
 }
 
 impl<N: Names> Model for Pass<N> {
-    ghost use Rattle.ecp_sequencer.specs.Passes.{AsksFor, IsPass, PassState, pass_seen};
+    ghost use Rattle.std.specs.Prelude.{◌≡◌, ◌≤◌, vec_capacity};
+    ghost use Rattle.ecp_sequencer.specs.Hands.{own_hand};
+    ghost use Rattle.ecp_sequencer.specs.Passes.{IsLastCall, IsPass, PassState, call_seen, pass_seen};
 
     ghost Value = { PassState };
 
-    ghost view = { λ p. pass_seen p.caller p.calls p.front.items p.hand p.spare.items };
+    ghost view = { λ p. pass_seen N.spare_hands p.caller p.calls p.front.items p.hand p.spare.items };
 
-    ghost invariant = { λ p. IsPass N.callers N.spare_hands p.front.log (pass_seen p.caller p.calls p.front.items p.hand p.spare.items) × AsksFor p.hand.notes p.deed };
+    ghost invariant = { λ p. IsPass N.callers N.spare_hands p.front.log (pass_seen N.spare_hands p.caller p.calls p.front.items p.hand p.spare.items)
+        × IsLastCall p.hand.notes (call_seen p.number p.deed)
+        × (p.hand.hand ≡ own_hand N.spare_hands p.caller → N.spare_hands ≤ vec_capacity p.spare) };
 }
 
 impl<N: Names> Pass<N> {
@@ -45,7 +51,7 @@ impl<N: Names> Pass<N> {
         self.caller
     }
 
-    /// The number of its caller's own hand.
+    /// The number of the hand that acts by it: its caller's own, or the spare one that was lent.
     pub fn hand(&self) -> u8
         ensures { result ≡ self.now.hand }
     {

@@ -2,7 +2,7 @@ ghost use Rattle.std.specs.Prelude.{◌≡◌, ◌^◌, ◌<◌, [], length};
 ghost use mathlib.Core.List.{IsPrefix};
 ghost use Rattle.ecp_shape.specs.declared.limits.TheConstants.{MAX_SESSIONS};
 ghost use Rattle.ecp_book.specs.Logs.{history_log};
-ghost use Rattle.ecp_sequencer.specs.Hands.{hands_of, own_hand};
+ghost use Rattle.ecp_sequencer.specs.Hands.{hands_of, IsHandOf};
 ghost use Rattle.ecp_sequencer.specs.Histories.{IsKept};
 ghost use Rattle.ecp_sequencer.specs.Sequencers.{Agrees};
 ghost use Rattle.ecp_sequencer.specs.Steps.{Event};
@@ -52,7 +52,8 @@ impl<N: Names> Sequencer<N> {
         ensures agree { Agrees self.old pass.old }
         ensures kept { IsKept N.shape N.told N.callers N.spare_hands self.old.history self.old.notes }
         ensures session { pass.old.caller < MAX_SESSIONS }
-        ensures own { pass.old.hand ≡ own_hand N.spare_hands pass.old.caller }
+        ensures places { pass.old.places ≡ N.spare_hands }
+        ensures own { IsHandOf N.spare_hands pass.old.caller pass.old.hand }
         ensures in_range { pass.old.hand < hands_of N.callers N.spare_hands }
         ensures short { length self.old.history < 2 ^ 32 }
         ensures same { self.new ≡ self.old }

@@ -79,14 +79,15 @@ fn next_pass<N: Names>(
     ensures count { OnOk result (into_iter_len keepers.new + 2 * (1 + spare) ≡ into_iter_len keepers.old) }
 {
     let hand = next_hand(book, keepers, desks)?;
-    let mut held = Vec::new(alloc);
+    let mut held = Vec::with_capacity(alloc, usize::from(spare))?;
     for _ in 0..spare {
         let next = next_hand(book, keepers, desks)?;
-        held.push(next)?;
+        held.push_reserved(next);
     }
     Ok(Pass {
         caller,
         calls: 0,
+        number: 0,
         deed: None,
         front,
         hand,
@@ -117,6 +118,7 @@ fn next_hand<N: Names>(
     desks.push(Desk {
         number,
         room: 0,
+        opened: false,
         tie: heard,
     })?;
     Ok(Hand {

@@ -4,6 +4,7 @@ ghost use Rattle.ecp_sequencer.specs.Hands.{hands_of};
 ghost use Rattle.ecp_sequencer.specs.Sequencers.{AreTies};
 
 mod calls;
+mod lent;
 mod spine;
 
 use super::*;

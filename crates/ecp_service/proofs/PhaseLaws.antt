@@ -8,10 +8,11 @@ use Rattle.std.proofs.lemmas.Option.{get_or_from_slice_get, none-some, same_Some
 use Rattle.ecp_book.proofs.Prefixes.{prefix_length}
 use Rattle.ecp_cluster.specs.declared.answer.Answer.{Answer}
 use Rattle.ecp_command.specs.declared.input.planned.Planned.{Planned}
-use Rattle.ecp_sequencer.specs.Passes.{PassState}
+use Rattle.ecp_sequencer.specs.Passes.{IsWhole, PassState}
+use Rattle.ecp_sequencer.proofs.StepLaws.{whole_by}
 use Rattle.ecp_service.specs.Callers.{AreAt, AreRaised, CanServe, IsAt, IsRaisedTo, IsReady, IsSame, ServedNext, ServedOf, ServedPhase}
 use Rattle.ecp_service.specs.Servable.{AreRising, EachServable}
-use Rattle.ecp_service.specs.Served.{Served}
+use Rattle.ecp_service.specs.Served.{Grown, Served}
 use Rattle.ecp_service.specs.declared.serving.caller.Caller.{Caller}
 use Rattle.ecp_service.proofs.ServedLaws.{grown_self, past_drop, served_by, served_grown, served_on}
 use Rattle.ecp_service.proofs.served.Lists.{got}
@@ -83,10 +84,16 @@ module _ (fences : ℕ → ℕ) (phase top : ℕ) where
 
 -- ---- the callers at the beginning of each phase
 
+-- a pass whose front has grown is whole as before
+grown_whole : (v w : PassState) → Grown v w → IsWhole v → IsWhole w
+grown_whole v w grown is =
+    whole_by v w (ap (λ (p : PassState). p.caller) grown.same) (ap (λ (p : PassState). p.hand) grown.same) (ap (λ (p : PassState). p.places) grown.same)
+    (ap (λ (p : PassState). p.spare) grown.same) is
+
 module _ {N : Type 0} (shape : Shape) (told : Bool) where
   at_first : (v : Caller N) → IsReady v → IsAt shape told (λ _. 0) 0 v v
   at_first v ready = record {
-    same = record { calls = refl; room = refl };
+    same = record { whole = λ is. is; calls = refl; room = refl };
     begun = omega arith;
     served = λ well. subst (λ (xs : List Answer). Served shape told (λ _. 0) v.pass v.calls.items xs v.pass) (sym ready.none) (grown_self v.pass);
     done = λ well i p here within. absurd (omega (arith, within, ap (λ (xs : List Answer). length xs) ready.none));
@@ -156,6 +163,7 @@ module _ {N : Type 0} (shape : Shape) (told : Bool) where
     at_next : IsAt shape told (with_fence fences phase top) (phase + 1) v w
     at_next = record {
       same = record {
+        whole = λ is. grown_whole a.pass w.pass raised.grown (served.same.whole (was.same.whole is));
         calls = ap (λ (x : Caller N). x.calls.items) raised.same ∙ calls_same;
         room = ap (λ (x : Caller N). vec_capacity x.answers) raised.same ∙ served.same.room ∙ was.same.room;
       };
@@ -196,6 +204,7 @@ module _ {N : Type 0} (shape : Shape) (told : Bool) where
       let same : IsSame (get_or old c d) (get_or new c d) = (at.at c d in_old).same in
       let was : CanServe (get_or old c d) = (ready c d in_old).can in
       record {
+        whole = same.whole was.whole;
         room = subst (λ (n : ℕ). length (get_or new c d).calls.items ≤ n) (sym same.room) (subst (λ (ps : List Planned). length ps ≤ vec_capacity (get_or old c d).answers) (sym same.calls) was.room);
         servable = subst EachServable (sym same.calls) was.servable;
       }

@@ -11,7 +11,8 @@ use Rattle.ecp_command.specs.Input.Accepted.{session_view}
 use Rattle.ecp_command.specs.Input.Calls.{SessionCalls}
 use Rattle.ecp_command.specs.declared.input.planned.Planned.{Planned}
 use Rattle.ecp_command.specs.declared.input.session.Session.{Session}
-use Rattle.ecp_sequencer.specs.Passes.{PassState, first_pass, first_passes}
+use Rattle.ecp_sequencer.specs.Passes.{IsWhole, PassState, first_pass, first_passes}
+use Rattle.ecp_sequencer.proofs.StepLaws.{first_whole}
 use Rattle.ecp_service.specs.Callers.{AreAt, AreSeated, IsAt, IsReady, IsSeated, replies_of}
 use Rattle.ecp_service.specs.Servable.{AreRising, AreServable, EachServable}
 use Rattle.ecp_service.specs.Served.{EachServed, Served, answers_by, calls_by}
@@ -68,6 +69,7 @@ all_ready spares callers phases sessions cs seated servable = λ c d within.
     let one : IsSeated (first_pass spares c) (calls_by sessions c) (get_or cs c d) = seated.seated c d (omega (arith, within, seated.each)) in
     record {
       can = record {
+        whole = subst (λ (p : PassState). IsWhole p) (sym one.pass) (first_whole spares c);
         room = subst (λ (ps : List Planned). length ps ≤ vec_capacity (get_or cs c d).answers) (sym one.calls) one.room;
         servable = subst EachServable (sym one.calls) (by_sessions EachServable sessions c tt (λ i s there. (servable.each i s there).calls));
       };

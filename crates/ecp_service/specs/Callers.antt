@@ -5,7 +5,7 @@ use Rattle.ecp_book.specs.Logs.{Log}
 use Rattle.ecp_cluster.specs.declared.answer.Answer.{Answer}
 use Rattle.ecp_command.specs.Input.Calls.{SessionCalls}
 use Rattle.ecp_command.specs.declared.input.planned.Planned.{Planned}
-use Rattle.ecp_sequencer.specs.Passes.{PassState, first_pass}
+use Rattle.ecp_sequencer.specs.Passes.{IsWhole, PassState, first_pass}
 use Rattle.ecp_service.specs.Servable.{AreRising, EachServable}
 use Rattle.ecp_service.specs.Served.{AnsweredCall, Grown, Served, calls_by}
 use Rattle.ecp_service.specs.declared.serving.caller.Caller.{Caller}
@@ -40,8 +40,9 @@ ServedOf shape told phase v (p ∷ calls) (a ∷ answers) w =
 abbrev pub IsPast : ℕ → List Planned → ℕ → Type 0
 IsPast phase calls at = MatchOption (slice_get calls at) ⊤ (λ p. p.phase ≢ phase)
 
--- a caller has room for the answers to its calls, and those can be served
+-- a caller has its pass whole and room for the answers to its calls, and those can be served
 pub record CanServe {N : Type 0} (c : Caller N) : Type 0 where
+  pub whole : IsWhole c.pass
   pub room : length c.calls.items ≤ vec_capacity c.answers
   pub servable : EachServable c.calls.items
 
@@ -58,8 +59,9 @@ pub record ServedNext (shape : Shape) (told : Bool) (phase : ℕ) (calls : List 
   pub served : ServedOf shape told phase v (drop (length old) calls) given w
   pub past : IsPast phase calls (length new)
 
--- a caller has its calls still, and room for the answers
+-- a caller has its calls still, and room for the answers, and its pass is whole if it was
 pub record IsSame {N : Type 0} (v w : Caller N) : Type 0 where
+  pub whole : IsWhole v.pass → IsWhole w.pass
   pub calls : w.calls.items ≡ v.calls.items
   pub room : vec_capacity w.answers ≡ vec_capacity v.answers
 

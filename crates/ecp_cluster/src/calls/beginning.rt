@@ -1,5 +1,6 @@
 //! How each call begins.
 ghost use Rattle.std.specs.Prelude.{OnOk, OnErr};
+ghost use Rattle.ecp_sequencer.specs.Passes.{IsWhole};
 ghost use Rattle.ecp_cluster.specs.Answered.{FoundNone, HasBegun};
 
 use crate::service::Service;
@@ -18,6 +19,7 @@ impl<N: Names, S: Store, G: Gate> Service<N, S, G> {
         pass: &mut Pass<N>,
         deed: Deed,
     ) -> Result<(), NoMemory>
+        requires { IsWhole pass.old }
         ensures ok { OnOk result (HasBegun pass.old deed pass.new) }
         ensures err { OnErr result (FoundNone pass.old pass.new) }
     {

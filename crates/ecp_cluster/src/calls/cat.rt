@@ -4,6 +4,7 @@ ghost use Rattle.ecp_shape.specs.declared.limits.TheConstants.{MAX_NAME};
 ghost use Rattle.ecp_entry.specs.declared.deed.Deed.{Deed};
 ghost use Rattle.ecp_entry.specs.declared.deed.Deed.TheVariants.{Cat};
 ghost use Rattle.ecp_sequencer.specs.Facts.{room_noted};
+ghost use Rattle.ecp_sequencer.specs.Passes.{IsWhole};
 ghost use Rattle.ecp_coord.specs.Calls.{IsFresh, IsOpen};
 ghost use Rattle.ecp_coord.specs.Closing.{MayClose};
 ghost use Rattle.ecp_cluster.specs.Concluded.{Concludes};
@@ -32,8 +33,10 @@ impl<N: Names, S: Store + Drop, G: Gate> Service<N, S, G> {
     pub fn cat<R: Wait>(&self, rt: &R, pass: &mut Pass<N>, name: &str) -> Result<Answer, NoMemory>
         requires some { 1 ≤ length name.now }
         requires short { length name.now ≤ MAX_NAME }
+        requires whole { IsWhole pass.old }
         ensures ok { IfOk result (λ a. ReadWhole N.shape N.told pass.old name.now a pass.new) }
         ensures err { OnErr result (StoppedShort pass.old (Cat name.now) pass.new) }
+        ensures whole { IsWhole pass.new }
     {
         let deed = Deed::Cat {
             name: Name::new(name),

@@ -1,6 +1,7 @@
 //! The call by which a node goes down.
 ghost use Rattle.std.specs.Prelude.{◌≡◌, [], IfOk, OnErr};
 ghost use Rattle.ecp_entry.specs.declared.deed.Deed.TheVariants.{Lose};
+ghost use Rattle.ecp_sequencer.specs.Passes.{IsWhole};
 ghost use Rattle.ecp_coord.specs.Calls.{IsOpen};
 ghost use Rattle.ecp_coord.specs.Losing.{act_of};
 ghost use Rattle.ecp_cluster.specs.Answered.{Answered, Finishes, FoundNone};
@@ -24,8 +25,10 @@ impl<N: Names, S: Store, G: Gate> Service<N, S, G> {
     /// It takes the node's lock, and then the coordinator's for the event; the node is wiped before its lock is free again.
     /// Want of memory is the only error: then the call has no entry.
     pub fn lose<R: Wait>(&self, rt: &R, pass: &mut Pass<N>, node: u32) -> Result<Act, NoMemory>
+        requires whole { IsWhole pass.old }
         ensures ok { IfOk result (λ act. Answered N.shape N.told pass.old (Lose node) act [] pass.new) }
         ensures err { OnErr result (FoundNone pass.old pass.new) }
+        ensures whole { IsWhole pass.new }
     {
         self.begin(rt, pass, Deed::Lose { node })?;
         Ok(self.put_down(rt, pass, node).act())

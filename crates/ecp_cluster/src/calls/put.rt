@@ -2,6 +2,7 @@
 ghost use Rattle.std.specs.Prelude.{◌≡◌, ℕ, ◌≤◌, List, length, IfOk, IfErr, OnErr};
 ghost use Rattle.ecp_shape.specs.declared.limits.TheConstants.{MAX_NAME, MAX_PUT_BYTES};
 ghost use Rattle.ecp_entry.specs.declared.deed.Deed.TheVariants.{Put};
+ghost use Rattle.ecp_sequencer.specs.Passes.{IsWhole};
 ghost use Rattle.ecp_coord.specs.Calls.{IsFresh};
 ghost use Rattle.ecp_coord.specs.Puts.{AreReceipts, IsReserved};
 ghost use Rattle.ecp_cluster.specs.Answered.{Answered, FoundNone};
@@ -40,8 +41,10 @@ impl<N: Names, S: Store, G: Gate> Service<N, S, G> {
         requires some { 1 ≤ length name.now }
         requires short { length name.now ≤ MAX_NAME }
         requires few { length bytes.now ≤ MAX_PUT_BYTES }
+        requires whole { IsWhole pass.old }
         ensures ok { IfOk result (λ act. Answered N.shape N.told pass.old (Put name.now (length bytes.now)) act (bytes_stored act bytes.now) pass.new) }
         ensures err { OnErr result (FoundNone pass.old pass.new) }
+        ensures whole { IsWhole pass.new }
     {
         let deed = Deed::Put {
             name: Name::new(name),

@@ -3,6 +3,7 @@ ghost use Rattle.std.specs.Prelude.{◌≡◌, ◌≤◌, [], false, length, IfO
 ghost use Rattle.ecp_shape.specs.declared.limits.TheConstants.{MAX_NAME};
 ghost use Rattle.ecp_entry.specs.declared.deed.Deed.TheVariants.{Read};
 ghost use Rattle.ecp_entry.specs.declared.deed.Deed.{Deed};
+ghost use Rattle.ecp_sequencer.specs.Passes.{IsWhole};
 ghost use Rattle.ecp_coord.specs.Calls.{IsOpen};
 ghost use Rattle.ecp_coord.specs.Plans.{CanPlan, IsPlanned, part_for, refusal_of};
 ghost use Rattle.ecp_requestor.specs.Fetching.{Fetches, GoesOn, IsBlockOf};
@@ -38,9 +39,11 @@ impl<N: Names, S: Store + Drop, G: Gate> Service<N, S, G> {
     ) -> Result<Answer, NoMemory>
         requires some { 1 ≤ length name.now }
         requires short { length name.now ≤ MAX_NAME }
+        requires whole { IsWhole pass.old }
         ensures ok { IfOk result (λ a. Answered N.shape N.told pass.old (Read name.now index) a.act a.bytes pass.new) }
         ensures digest { IfOk result (λ a. (a.by_digest ≡ false) × (a.digest ≡ no_digest)) }
         ensures err { OnErr result (FoundNone pass.old pass.new) }
+        ensures whole { IsWhole pass.new }
     {
         let deed = Deed::Read {
             name: Name::new(name),

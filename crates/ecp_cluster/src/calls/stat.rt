@@ -2,6 +2,7 @@
 ghost use Rattle.std.specs.Prelude.{◌≡◌, ◌≤◌, [], length, IfOk, OnErr};
 ghost use Rattle.ecp_shape.specs.declared.limits.TheConstants.{MAX_NAME};
 ghost use Rattle.ecp_entry.specs.declared.deed.Deed.TheVariants.{Stat};
+ghost use Rattle.ecp_sequencer.specs.Passes.{IsWhole};
 ghost use Rattle.ecp_cluster.specs.Answered.{Answered, FoundNone};
 
 use crate::service::Service;
@@ -20,8 +21,10 @@ impl<N: Names, S: Store, G: Gate> Service<N, S, G> {
     pub fn stat<R: Wait>(&self, rt: &R, pass: &mut Pass<N>, name: &str) -> Result<Act, NoMemory>
         requires some { 1 ≤ length name.now }
         requires short { length name.now ≤ MAX_NAME }
+        requires whole { IsWhole pass.old }
         ensures ok { IfOk result (λ act. Answered N.shape N.told pass.old (Stat name.now) act [] pass.new) }
         ensures err { OnErr result (FoundNone pass.old pass.new) }
+        ensures whole { IsWhole pass.new }
     {
         let deed = Deed::Stat {
             name: Name::new(name),

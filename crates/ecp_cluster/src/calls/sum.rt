@@ -2,6 +2,7 @@
 ghost use Rattle.std.specs.Prelude.{◌≡◌, ◌≤◌, length, IfOk, OnErr};
 ghost use Rattle.ecp_shape.specs.declared.limits.TheConstants.{MAX_NAME};
 ghost use Rattle.ecp_entry.specs.declared.deed.Deed.TheVariants.{Sum};
+ghost use Rattle.ecp_sequencer.specs.Passes.{IsWhole};
 ghost use Rattle.ecp_cluster.specs.Answered.{FoundNone};
 ghost use Rattle.ecp_cluster.specs.Summed.{Summed};
 
@@ -30,8 +31,10 @@ impl<N: Names, S: Store + Drop, G: Gate> Service<N, S, G> {
     ) -> Result<Answer, NoMemory>
         requires some { 1 ≤ length name.now }
         requires short { length name.now ≤ MAX_NAME }
+        requires whole { IsWhole pass.old }
         ensures ok { IfOk result (λ a. Summed N.shape N.told pass.old (Sum name.now index) a pass.new) }
         ensures err { OnErr result (FoundNone pass.old pass.new) }
+        ensures whole { IsWhole pass.new }
     {
         let deed = Deed::Sum {
             name: Name::new(name),

@@ -1,6 +1,7 @@
 //! A file that is read whole, block by block.
 ghost use Rattle.std.specs.Prelude.{◌≡◌, IsTrue};
 ghost use Rattle.ecp_book.specs.Logs.{logs_of};
+ghost use Rattle.ecp_sequencer.specs.Passes.{IsWhole};
 ghost use Rattle.ecp_cluster.specs.Opening.{AreStarts};
 
 use super::sizes::{CALLERS, LOGS_OF_THREE, SPARE, opened_as, two_stores};
@@ -69,7 +70,10 @@ fn is_whole<N: Names, S: Store + Drop, R: Abort + Wait>(
     rt: &R,
     service: &Service<N, S, OpenGate>,
     pass: &mut Pass<N>,
-) -> Result<(), Fail> {
+) -> Result<(), Fail>
+    requires whole { IsWhole pass.old }
+    ensures whole { IsWhole pass.new }
+{
     let file = service.cat(rt, pass, "a")?;
     assert_eq!(rt; (file.act, file.len), (Act::Whole, 3));
     assert_eq!(rt; file.digest, OF_ABC);
@@ -82,7 +86,10 @@ fn is_broken<N: Names, S: Store + Drop, R: Abort + Wait>(
     rt: &R,
     service: &Service<N, S, OpenGate>,
     pass: &mut Pass<N>,
-) -> Result<(), Fail> {
+) -> Result<(), Fail>
+    requires whole { IsWhole pass.old }
+    ensures whole { IsWhole pass.new }
+{
     let file = service.cat(rt, pass, "a")?;
     assert_eq!(rt;
         (file.act, file.cause),

@@ -1,7 +1,7 @@
 //! A worked caller: two callers in threads of their own lose nodes, and the service is closed.
-ghost use Rattle.std.specs.Prelude.{◌≡◌, ℕ, ◌<◌, IsTrue, length, slice_index_or};
+ghost use Rattle.std.specs.Prelude.{◌≡◌, All, ℕ, ◌<◌, IsTrue, length, slice_index_or};
 ghost use Rattle.ecp_book.specs.Logs.{logs_of};
-ghost use Rattle.ecp_sequencer.specs.Passes.{PassState, first_passes};
+ghost use Rattle.ecp_sequencer.specs.Passes.{IsWhole, PassState, first_passes};
 ghost use Rattle.ecp_sequencer.specs.Rounds.{Finished, Worked};
 ghost use Rattle.ecp_cluster.specs.Opening.{AreStarts};
 
@@ -23,6 +23,7 @@ fn work<N: Names, S: Store, G: Gate, R: Wait>(
     service: &Service<N, S, G>,
     pass: &mut Pass<N>,
 )
+    requires { IsWhole pass.old }
     ensures { Worked pass.old pass.new }
 {
     let _ = service.lose(rt, pass, 0);
@@ -36,13 +37,16 @@ fn work_all<N: Names + Send + Sync, S: Store + Send, G: Gate + Sync, R: Threads 
     service: &Service<N, S, G>,
     passes: &mut [Pass<N>],
 )
-    ensures { (k : ℕ) (p : PassState) → k < length passes.old → Worked (slice_index_or passes.old k p) (slice_index_or passes.new k p) }
+    requires whole { All IsWhole passes.old }
+    ensures worked { (k : ℕ) (p : PassState) → k < length passes.old → Worked (slice_index_or passes.old k p) (slice_index_or passes.new k p) }
+    ensures whole { All IsWhole passes.new }
 {
     thread::for_each_mut(
         rt,
         passes,
         2,
         &|_, pass: &mut Pass<N>|
+            requires { IsWhole pass.now }
             ensures { Worked pass.entry.now pass.exit.now }
         { work(rt, service, pass) },
     );

@@ -1,6 +1,7 @@
 //! A helper that goes down while a slice is held up at it.
 ghost use Rattle.std.specs.Prelude.{◌≡◌, IsTrue};
 ghost use Rattle.ecp_book.specs.Logs.{logs_of};
+ghost use Rattle.ecp_sequencer.specs.Passes.{IsWhole};
 ghost use Rattle.ecp_cluster.specs.Opening.{AreStarts};
 
 use super::held::Held;
@@ -53,7 +54,9 @@ fn stores_and_loses<N: Names, S: Store + Drop, R: Abort + Wait>(
     rt: &R,
     service: &Service<N, S, &Held>,
     mut pass: Pass<N>,
-) -> Result<(), Fail> {
+) -> Result<(), Fail>
+    requires whole { IsWhole pass }
+{
     let put = service.put(rt, &mut pass, "a", &[0x41, 0x42, 0x43, 0x44])?;
     let stored = Act::Stored {
         first: 0,
@@ -70,11 +73,18 @@ fn reads_through_a_loss<
     N: Names + Send + Sync,
     S: Store + Drop + Send,
     R: Threads + Wait + Abort + Sync,
->(rt: &R, service: &Service<N, S, &Held>, reader: Pass<N>, other: Pass<N>) -> Result<(), Fail> {
+>(rt: &R, service: &Service<N, S, &Held>, reader: Pass<N>, other: Pass<N>) -> Result<(), Fail>
+    requires reader { IsWhole reader }
+    requires other { IsWhole other }
+{
     let (answer, lost) = join(
         rt,
-        move || reads(rt, service, reader),
-        move || loses(rt, service, other),
+        move ||
+            requires { IsWhole reader }
+        { reads(rt, service, reader) },
+        move ||
+            requires { IsWhole other }
+        { loses(rt, service, other) },
     );
     let answer = answer?;
     assert_eq!(rt; lost?, Act::Lost(1));
@@ -87,7 +97,9 @@ fn reads<N: Names, S: Store + Drop, R: Wait>(
     rt: &R,
     service: &Service<N, S, &Held>,
     mut pass: Pass<N>,
-) -> Result<Answer, NoMemory> {
+) -> Result<Answer, NoMemory>
+    requires whole { IsWhole pass }
+{
     let answer = service.read(rt, &mut pass, "a", 0);
     service.gate.let_go();
     answer
@@ -98,7 +110,9 @@ fn loses<N: Names, S: Store + Drop, R: Wait>(
     rt: &R,
     service: &Service<N, S, &Held>,
     mut pass: Pass<N>,
-) -> Result<Act, NoMemory> {
+) -> Result<Act, NoMemory>
+    requires whole { IsWhole pass }
+{
     service.gate.await_it(rt);
     let act = service.lose(rt, &mut pass, 1);
     service.gate.let_go();

@@ -1,6 +1,7 @@
 //! Puts whose nodes are lost meanwhile: no row of them stays.
 ghost use Rattle.std.specs.Prelude.{◌≡◌, false};
 ghost use Rattle.ecp_book.specs.Logs.{logs_of};
+ghost use Rattle.ecp_sequencer.specs.Passes.{IsWhole};
 ghost use Rattle.ecp_cluster.specs.Opening.{AreStarts};
 
 use super::sizes::{CALLERS, LOGS, SHAPE, SPARE, opened};
@@ -51,7 +52,10 @@ fn is_overtaken<N: Names, R: Abort + Wait>(
     service: &Service<N, Tally, OpenGate>,
     pass: &mut Pass<N>,
     other: &mut Pass<N>,
-) -> Result<(), Fail> {
+) -> Result<(), Fail>
+    requires whole { IsWhole pass.old }
+    requires other { IsWhole other.old }
+{
     let name = Name::new("a");
     service.begin(rt, pass, Deed::Put { name, len: 1 })?;
     let Ok(mut res) = service.reserve(rt, pass, "a", 1) else {
@@ -102,7 +106,10 @@ fn goes_on_with_too_few<N: Names, R: Abort + Wait>(
     service: &Service<N, Tally, OpenGate>,
     pass: &mut Pass<N>,
     other: &mut Pass<N>,
-) -> Result<(), Fail> {
+) -> Result<(), Fail>
+    requires whole { IsWhole pass.old }
+    requires other { IsWhole other.old }
+{
     let name = Name::new("a");
     service.begin(rt, pass, Deed::Put { name, len: 1 })?;
     let Ok(res) = service.reserve(rt, pass, "a", 1) else {

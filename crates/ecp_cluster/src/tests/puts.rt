@@ -1,6 +1,7 @@
 //! Files that are stored and read, and each refusal of a put.
 ghost use Rattle.std.specs.Prelude.{◌≡◌, IsTrue};
 ghost use Rattle.ecp_book.specs.Logs.{logs_of};
+ghost use Rattle.ecp_sequencer.specs.Passes.{IsWhole};
 ghost use Rattle.ecp_cluster.specs.Opening.{AreStarts};
 
 use super::sizes::{
@@ -56,7 +57,10 @@ fn stores_a_file<N: Names, S: Store + Drop, R: Abort + Wait>(
     rt: &R,
     service: &Service<N, S, OpenGate>,
     pass: &mut Pass<N>,
-) -> Result<(), Fail> {
+) -> Result<(), Fail>
+    requires whole { IsWhole pass.old }
+    ensures whole { IsWhole pass.new }
+{
     let put = service.put(rt, pass, "a", &[0x41, 0x42, 0x43])?;
     let stored = Act::Stored {
         first: 0,
@@ -71,7 +75,10 @@ fn reads_live<N: Names, S: Store + Drop, R: Abort + Wait>(
     rt: &R,
     service: &Service<N, S, OpenGate>,
     pass: &mut Pass<N>,
-) -> Result<(), Fail> {
+) -> Result<(), Fail>
+    requires whole { IsWhole pass.old }
+    ensures whole { IsWhole pass.new }
+{
     let live = service.read(rt, pass, "a", 0)?;
     assert_eq!(rt; live.bytes.bytes(), [0x41].as_slice());
     let last = service.read(rt, pass, "a", 2)?;
@@ -83,7 +90,10 @@ fn reads_lost<N: Names, S: Store + Drop, R: Abort + Wait>(
     rt: &R,
     service: &Service<N, S, OpenGate>,
     pass: &mut Pass<N>,
-) -> Result<(), Fail> {
+) -> Result<(), Fail>
+    requires whole { IsWhole pass.old }
+    ensures whole { IsWhole pass.new }
+{
     assert_eq!(rt; service.lose(rt, pass, 0)?, Act::Lost(2));
     let lost = service.read(rt, pass, "a", 0)?;
     assert_eq!(rt; lost.act, Act::Data);
@@ -123,7 +133,10 @@ fn refuses_a_taken_name<N: Names, S: Store + Drop, R: Abort + Wait>(
     rt: &R,
     service: &Service<N, S, OpenGate>,
     pass: &mut Pass<N>,
-) -> Result<(), Fail> {
+) -> Result<(), Fail>
+    requires whole { IsWhole pass.old }
+    ensures whole { IsWhole pass.new }
+{
     let stored = Act::Stored {
         first: 0,
         stripes: 0,
@@ -138,7 +151,10 @@ fn refuses_too_few_nodes<N: Names, S: Store + Drop, R: Abort + Wait>(
     rt: &R,
     service: &Service<N, S, OpenGate>,
     pass: &mut Pass<N>,
-) -> Result<(), Fail> {
+) -> Result<(), Fail>
+    requires whole { IsWhole pass.old }
+    ensures whole { IsWhole pass.new }
+{
     assert_eq!(rt; service.lose(rt, pass, 0)?, Act::Lost(0));
     let put = service.put(rt, pass, "b", &[0x41])?;
     assert_eq!(rt; put, Act::TooFewNodes(1));

@@ -1,6 +1,7 @@
 //! Two reads at one node, of which the second is answered while the first is held up.
 ghost use Rattle.std.specs.Prelude.{◌≡◌, IsTrue};
 ghost use Rattle.ecp_book.specs.Logs.{logs_of};
+ghost use Rattle.ecp_sequencer.specs.Passes.{IsWhole};
 ghost use Rattle.ecp_cluster.specs.Opening.{AreStarts};
 
 use super::held::Held;
@@ -54,11 +55,18 @@ fn read_both<N: Names + Send + Sync, S: Store + Drop + Send, R: Threads + Wait +
     service: &Service<N, S, &Held>,
     first: Pass<N>,
     second: Pass<N>,
-) -> Result<(), Fail> {
+) -> Result<(), Fail>
+    requires first { IsWhole first }
+    requires second { IsWhole second }
+{
     let (one, two) = join(
         rt,
-        move || reads(rt, service, first),
-        move || reads_meanwhile(rt, service, second),
+        move ||
+            requires { IsWhole first }
+        { reads(rt, service, first) },
+        move ||
+            requires { IsWhole second }
+        { reads_meanwhile(rt, service, second) },
     );
     is_the_block(rt, one?)?;
     is_the_block(rt, two?)
@@ -68,7 +76,9 @@ fn reads<N: Names, S: Store + Drop, R: Wait>(
     rt: &R,
     service: &Service<N, S, &Held>,
     mut pass: Pass<N>,
-) -> Result<Answer, NoMemory> {
+) -> Result<Answer, NoMemory>
+    requires whole { IsWhole pass }
+{
     let answer = service.read(rt, &mut pass, "a", 0);
     service.gate.let_go();
     answer
@@ -79,7 +89,9 @@ fn reads_meanwhile<N: Names, S: Store + Drop, R: Wait>(
     rt: &R,
     service: &Service<N, S, &Held>,
     pass: Pass<N>,
-) -> Result<Answer, NoMemory> {
+) -> Result<Answer, NoMemory>
+    requires whole { IsWhole pass }
+{
     service.gate.await_it(rt);
     reads(rt, service, pass)
 }

@@ -3,6 +3,7 @@ ghost use Rattle.std.specs.Prelude.{◌≡◌, ◌<◌, IsTrue};
 ghost use Rattle.ecp_book.specs.Logs.{logs_of};
 ghost use Rattle.ecp_coord.specs.Plans.{IsPlanned};
 ghost use Rattle.ecp_requestor.specs.Crews.{Replans};
+ghost use Rattle.ecp_sequencer.specs.Passes.{IsWhole};
 ghost use Rattle.ecp_cluster.specs.Opening.{AreStarts};
 
 use super::sizes::{
@@ -17,7 +18,7 @@ use ecp_plan::Plan;
 use ecp_requestor::{Crew, Fetched, fetch};
 use ecp_store::{MemStore, Store};
 use std::alloc::Global;
-use std::marker::Brand;
+use std::marker::{Brand, Model};
 use std::process::Abort;
 use std::sync::{Mutex, Wait};
 use std::test::Fail;
@@ -26,7 +27,23 @@ use std::test::Fail;
 #[derive(Drop)]
 struct Losing<'a, N: Names, S: Store + Drop> {
     service: &'a Service<N, S, OpenGate>,
-    other: Mutex<Option<Pass<N>>>,
+    other: Mutex<Option<Own<N>>>,
+}
+
+/// A pass that is its caller's own.
+#[derive(Drop)]
+struct Own<N: Names> {
+    pass: Pass<N>,
+}
+
+impl<N: Names> Model for Own<N> {
+    ghost use Rattle.ecp_sequencer.specs.Passes.{IsWhole, PassState};
+
+    ghost Value = { PassState };
+
+    ghost view = { λ o. o.pass };
+
+    ghost invariant = { λ o. IsWhole o.pass };
 }
 
 impl<'a, N: Names, S: Store + Drop> Crew<N> for Losing<'a, N, S> {
@@ -34,7 +51,7 @@ impl<'a, N: Names, S: Store + Drop> Crew<N> for Losing<'a, N, S> {
         requires { node < N.shape.nodes }
     {
         if node == 1
-            && let Some(mut other) = self.other.lock(rt).take()
+            && let Some(Own { pass: mut other }) = self.other.lock(rt).take()
         {
             let _ = self.service.lose(rt, &mut other, 1);
         }
@@ -62,7 +79,10 @@ fn fetched<N: Names, S: Store + Drop, R: Abort + Wait>(
     service: &Service<N, S, OpenGate>,
     pass: &mut Pass<N>,
     other: Pass<N>,
-) -> Result<Fetched<N>, Fail> {
+) -> Result<Fetched<N>, Fail>
+    requires whole { IsWhole pass.old }
+    requires other { IsWhole other }
+{
     service.put(rt, pass, "a", &[0x41, 0x42])?;
     service.lose(rt, pass, 0)?;
     let name = Name::new("a");
@@ -76,7 +96,7 @@ fn fetched<N: Names, S: Store + Drop, R: Abort + Wait>(
     };
     let crew = Losing {
         service,
-        other: Mutex::new(Some(other)),
+        other: Mutex::new(Some(Own { pass: other })),
     };
     let port = service.ports.get(1).ok_or("port 1")?;
     let mut port = port.lock(rt);

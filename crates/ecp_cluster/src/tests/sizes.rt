@@ -122,6 +122,7 @@ pub(super) fn opened_behind<N: Names, S: Store + Drop, G: Gate + Drop>(
     requires range { IsInRange shape }
     requires told { IsTrue N.told → IsTrue S.tells }
     requires stores { AreStarts S.faults S.faultless N.stores shape.nodes stores.items }
+    ensures { IfOk result (λ r. r.1.items ≡ first_passes 1 3) }
 {
     match Service::open(
         alloc,

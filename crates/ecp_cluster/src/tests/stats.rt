@@ -1,6 +1,7 @@
 //! The sizes and the live blocks of a file.
 ghost use Rattle.std.specs.Prelude.{◌≡◌, IsTrue};
 ghost use Rattle.ecp_book.specs.Logs.{logs_of};
+ghost use Rattle.ecp_sequencer.specs.Passes.{IsWhole};
 ghost use Rattle.ecp_cluster.specs.Opening.{AreStarts};
 
 use super::sizes::{CALLERS, LOGS_OF_THREE, SPARE, THREE, opened_as, two_stores};
@@ -49,7 +50,10 @@ fn states_an_empty_file<N: Names, S: Store + Drop, R: Abort + Wait>(
     rt: &R,
     service: &Service<N, S, OpenGate>,
     pass: &mut Pass<N>,
-) -> Result<(), Fail> {
+) -> Result<(), Fail>
+    requires whole { IsWhole pass.old }
+    ensures whole { IsWhole pass.new }
+{
     service.put(rt, pass, "e", &[])?;
     let read = service.read(rt, pass, "e", 0)?;
     assert_eq!(rt; read.act, Act::NoSuchBlock(0));
@@ -61,7 +65,10 @@ fn states_a_file<N: Names, S: Store + Drop, R: Abort + Wait>(
     rt: &R,
     service: &Service<N, S, OpenGate>,
     pass: &mut Pass<N>,
-) -> Result<(), Fail> {
+) -> Result<(), Fail>
+    requires whole { IsWhole pass.old }
+    ensures whole { IsWhole pass.new }
+{
     service.put(rt, pass, "a", &[0x41, 0x42, 0x43])?;
     assert_eq!(rt; service.stat(rt, pass, "a")?, stat(3, 3, 6));
     service.lose(rt, pass, 0)?;

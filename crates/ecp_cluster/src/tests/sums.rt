@@ -1,6 +1,7 @@
 //! The digest of a block, while it is live and when it is lost.
 ghost use Rattle.std.specs.Prelude.{◌≡◌, IsTrue};
 ghost use Rattle.ecp_book.specs.Logs.{logs_of};
+ghost use Rattle.ecp_sequencer.specs.Passes.{IsWhole};
 ghost use Rattle.ecp_cluster.specs.Opening.{AreStarts};
 
 use super::sizes::{CALLERS, LOGS, SPARE, opened_as, two_stores};
@@ -67,7 +68,10 @@ fn has_digest<N: Names, S: Store + Drop, R: Abort + Wait>(
     rt: &R,
     service: &Service<N, S, OpenGate>,
     pass: &mut Pass<N>,
-) -> Result<(), Fail> {
+) -> Result<(), Fail>
+    requires whole { IsWhole pass.old }
+    ensures whole { IsWhole pass.new }
+{
     let sum = service.sum(rt, pass, "a", 0)?;
     assert_eq!(rt; sum.act, Act::Data);
     assert_eq!(rt; sum.digest, OF_ABC);
@@ -79,7 +83,10 @@ fn has_none<N: Names, S: Store + Drop, R: Abort + Wait>(
     rt: &R,
     service: &Service<N, S, OpenGate>,
     pass: &mut Pass<N>,
-) -> Result<(), Fail> {
+) -> Result<(), Fail>
+    requires whole { IsWhole pass.old }
+    ensures whole { IsWhole pass.new }
+{
     let none = service.sum(rt, pass, "b", 0)?;
     assert_eq!(rt; none.act, Act::NoSuchFile);
     assert_eq!(rt; none.digest, [0; 32]);

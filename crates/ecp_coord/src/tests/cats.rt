@@ -4,6 +4,7 @@ ghost use Rattle.ecp_shape.specs.declared.limits.TheConstants.{MAX_NAME};
 ghost use Rattle.ecp_book.specs.Logs.{logs_of};
 ghost use Rattle.ecp_entry.specs.declared.act.Act.TheVariants.{Whole};
 ghost use Rattle.ecp_node.specs.Nodes.{start_of};
+ghost use Rattle.ecp_sequencer.specs.Passes.{IsWhole};
 ghost use Rattle.ecp_coord.specs.declared.opened.Opened.TheVariants as found;
 ghost use Rattle.ecp_coord.specs.Closing.{MayClose};
 ghost use Rattle.ecp_coord.specs.Puts.{IsReserved};
@@ -132,6 +133,7 @@ fn whole<N: Names>(
 ) -> Result<(), Fail>
     requires some { 1 ≤ length name.now }
     requires short { length name.now ≤ MAX_NAME }
+    requires whole { IsWhole pass.old }
 {
     let Opened::Opened {
         len: 0,
@@ -154,6 +156,7 @@ fn open<N: Names>(
 ) -> Result<Opened, NoMemory>
     requires some { 1 ≤ length name.now }
     requires short { length name.now ≤ MAX_NAME }
+    requires whole { IsWhole pass.old }
     ensures empty { (len first : ℕ) → result ≡ Ok (found.Opened len 0 first) → MayClose pass.new Whole }
 {
     let deed = Deed::Cat {
@@ -173,8 +176,10 @@ fn reserved<N: Names>(
 ) -> Result<Reservation<N>, Fail>
     requires some { 1 ≤ length name.now }
     requires short { length name.now ≤ MAX_NAME }
+    requires whole { IsWhole pass.old }
     ensures reserved { IfOk result (λ res. IsReserved N.shape N.told pass.new res) }
     ensures len { IfOk result (λ res. res.len ≡ len) }
+    ensures whole { IsWhole pass.new }
 {
     let deed = Deed::Put {
         name: Name::new(name),
@@ -199,6 +204,8 @@ fn put<N: Names>(
     requires some { 1 ≤ length name.now }
     requires short { length name.now ≤ MAX_NAME }
     requires names { (N.shape ≡ SHAPE) × (N.told ≡ false) }
+    requires whole { IsWhole pass.old }
+    ensures whole { IsWhole pass.new }
 {
     let mut res = reserved(coord, book, pass, name, 2)?;
     let rows = rows_of(alloc, book, nodes, &res, 3)?;

@@ -2,6 +2,7 @@
 ghost use Rattle.std.specs.Prelude.{◌≡◌, ℕ, ◌<◌, IfOk, false, true};
 ghost use Rattle.ecp_book.specs.Logs.{logs_of};
 ghost use Rattle.ecp_node.specs.Nodes.{start_of};
+ghost use Rattle.ecp_sequencer.specs.Passes.{IsWhole};
 ghost use Rattle.ecp_coord.specs.Plans.{IsPlanned};
 
 use super::worked::{Scene, lose, put, set_up};
@@ -92,7 +93,10 @@ fn kept<N: Names>(
     pass: &mut Pass<N>,
     other: &mut Pass<N>,
 ) -> Result<Plan<N>, Fail>
-    ensures { IfOk result (λ plan. IsPlanned N.shape N.told pass.new plan) }
+    requires whole { IsWhole pass.old }
+    requires other { IsWhole other.old }
+    ensures planned { IfOk result (λ plan. IsPlanned N.shape N.told pass.new plan) }
+    ensures other { IsWhole other.new }
 {
     let mut plan = planned(alloc, coord, book, pass)?;
     stands(coord, book, pass, &mut plan)?;
@@ -112,6 +116,7 @@ fn moved<N: Names, R: Abort>(
 ) -> Result<u8, Fail>
     requires names { (N.shape ≡ SHAPE) × (N.told ≡ false) }
     requires planned { IsPlanned N.shape N.told pass.old plan.old }
+    requires other { IsWhole other.old }
 {
     lose(coord, book, other, 0)?;
     moves(coord, book, pass, plan)?;
@@ -130,6 +135,8 @@ fn read<N: Names>(
     pass: &mut Pass<N>,
 ) -> Result<u8, Fail>
     requires names { (N.shape ≡ SHAPE) × (N.told ≡ false) }
+    requires whole { IsWhole pass.old }
+    ensures whole { IsWhole pass.new }
 {
     let mut plan = planned(alloc, coord, book, pass)?;
     let row = helper(&plan)?;
@@ -144,7 +151,9 @@ fn planned<N: Names>(
     book: &Book<N>,
     pass: &mut Pass<N>,
 ) -> Result<Plan<N>, Fail>
-    ensures { IfOk result (λ plan. IsPlanned N.shape N.told pass.new plan) }
+    requires whole { IsWhole pass.old }
+    ensures planned { IfOk result (λ plan. IsPlanned N.shape N.told pass.new plan) }
+    ensures whole { IsWhole pass.new }
 {
     let deed = Deed::Read {
         name: Name::new("a"),
@@ -205,6 +214,7 @@ fn moves<N: Names>(
 fn end<N: Names>(coord: &mut Coord<N>, book: &Book<N>, pass: &mut Pass<N>, plan: &mut Plan<N>)
     requires names { (N.shape ≡ SHAPE) × (N.told ≡ false) }
     requires planned { IsPlanned N.shape N.told pass.old plan.old }
+    ensures whole { IsWhole pass.new }
 {
     coord.finish(book, pass, plan, &[0x41]);
 }

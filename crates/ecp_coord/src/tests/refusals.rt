@@ -2,6 +2,7 @@
 ghost use Rattle.std.specs.Prelude.{◌≡◌, ℕ, ◌<◌, IfOk, false, true};
 ghost use Rattle.ecp_book.specs.Logs.{logs_of};
 ghost use Rattle.ecp_node.specs.Nodes.{start_of};
+ghost use Rattle.ecp_sequencer.specs.Passes.{IsWhole};
 ghost use Rattle.ecp_coord.specs.Puts.{IsReserved};
 
 use super::worked::{Scene, lose, publish, put, reserved, rows_of, set_up};
@@ -124,8 +125,11 @@ fn beaten<N: Names>(
     nodes: &mut [Node<N, MemStore>],
 ) -> Result<Reservation<N>, Fail>
     requires names { (N.shape ≡ SHAPE) × (N.told ≡ false) }
+    requires whole { IsWhole pass.old }
+    requires other { IsWhole other.old }
     ensures reserved { IfOk result (λ res. IsReserved N.shape N.told pass.new res) }
     ensures len { IfOk result (λ res. res.len ≡ 1) }
+    ensures other { IsWhole other.new }
 {
     let mut late = reserved(coord, book, pass)?;
     put(alloc, coord, book, other, nodes, SHAPE)?;
@@ -157,7 +161,10 @@ fn no_places<N: Names>(
     coord: &mut Coord<N>,
     book: &Book<N>,
     pass: &mut Pass<N>,
-) -> Result<NoPlaces, Fail> {
+) -> Result<NoPlaces, Fail>
+    requires whole { IsWhole pass.old }
+    ensures whole { IsWhole pass.new }
+{
     let name = Name::new("a");
     coord.begin(book, pass, Deed::Put { name, len: 1 })?;
     let Err(why) = coord.reserve_put(book, pass, "a", 1) else {
@@ -173,7 +180,10 @@ fn no_plan<N: Names>(
     book: &Book<N>,
     pass: &mut Pass<N>,
     index: u32,
-) -> Result<NoPlan, Fail> {
+) -> Result<NoPlan, Fail>
+    requires whole { IsWhole pass.old }
+    ensures whole { IsWhole pass.new }
+{
     let deed = Deed::Read {
         name: Name::new("a"),
         index,

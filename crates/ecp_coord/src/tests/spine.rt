@@ -1,7 +1,7 @@
 //! A worked caller: two callers in threads of their own, who share the coordinator under a lock.
-ghost use Rattle.std.specs.Prelude.{◌≡◌, ℕ, ◌<◌, length, IfOk, OnOk, OnErr, slice_index_or};
+ghost use Rattle.std.specs.Prelude.{◌≡◌, ℕ, ◌<◌, All, length, IfOk, OnOk, OnErr, slice_index_or};
 ghost use Rattle.ecp_entry.specs.declared.deed.Deed.TheVariants.{Lose};
-ghost use Rattle.ecp_sequencer.specs.Passes.{PassState, first_passes};
+ghost use Rattle.ecp_sequencer.specs.Passes.{IsWhole, PassState, first_passes};
 ghost use Rattle.ecp_sequencer.specs.Rounds.{Began, Worked, Raised, Finished};
 ghost use Rattle.ecp_coord.specs.Rounds.{CalledLose};
 
@@ -24,6 +24,7 @@ fn begin<N: Names, R: Wait>(
     pass: &mut Pass<N>,
     node: u32,
 ) -> Result<(), NoMemory>
+    requires { IsWhole pass.old }
     ensures ok { OnOk result (Began pass.old (Lose node) pass.new) }
     ensures err { OnErr result (Worked pass.old pass.new) }
 {
@@ -40,6 +41,7 @@ fn lose<N: Names, R: Wait>(
     pass: &mut Pass<N>,
     node: u32,
 ) -> Result<NodeAct, NoMemory>
+    requires { IsWhole pass.old }
     ensures ok { IfOk result (λ found. CalledLose N.shape N.told pass.old node found pass.new) }
     ensures err { OnErr result (Worked pass.old pass.new) }
 {
@@ -58,6 +60,7 @@ fn work<N: Names, R: Wait>(
     pass: &mut Pass<N>,
     node: u32,
 )
+    requires { IsWhole pass.old }
     ensures { Worked pass.old pass.new }
 {
     let _ = lose(rt, book, shared, pass, node);
@@ -74,13 +77,16 @@ fn round<N: Names + Send + Sync, R: Threads + Wait + Sync>(
     passes: &mut [Pass<N>],
     node: u32,
 )
-    ensures { (k : ℕ) (p : PassState) → k < length passes.old → Worked (slice_index_or passes.old k p) (slice_index_or passes.new k p) }
+    requires whole { All IsWhole passes.old }
+    ensures worked { (k : ℕ) (p : PassState) → k < length passes.old → Worked (slice_index_or passes.old k p) (slice_index_or passes.new k p) }
+    ensures whole { All IsWhole passes.new }
 {
     thread::for_each_mut(
         rt,
         passes,
         2,
         &|_, pass: &mut Pass<N>|
+            requires { IsWhole pass.now }
             ensures { Worked pass.entry.now pass.exit.now }
         { work(rt, book, shared, pass, node) },
     );
@@ -88,7 +94,9 @@ fn round<N: Names + Send + Sync, R: Threads + Wait + Sync>(
 
 /// Raises each pass to the front of the first.
 fn raise_all<N: Names>(book: &Book<N>, passes: &mut [Pass<N>])
-    ensures { (k : ℕ) (p : PassState) → k < length passes.old → Raised (slice_index_or passes.old k p) (slice_index_or passes.new k p) }
+    requires whole { All IsWhole passes.old }
+    ensures raised { (k : ℕ) (p : PassState) → k < length passes.old → Raised (slice_index_or passes.old k p) (slice_index_or passes.new k p) }
+    ensures whole { All IsWhole passes.new }
 {
     if passes.is_empty() {
         return;
@@ -106,6 +114,7 @@ fn rounds<N: Names + Send + Sync, R: Threads + Wait + Sync>(
     shared: &Mutex<Coord<N>>,
     passes: &mut [Pass<N>],
 )
+    requires whole { All IsWhole passes.old }
     ensures { (k : ℕ) (p : PassState) → k < length passes.old → Worked (slice_index_or passes.old k p) (slice_index_or passes.new k p) }
 {
     round(rt, book, shared, passes, 0);
@@ -114,6 +123,7 @@ fn rounds<N: Names + Send + Sync, R: Threads + Wait + Sync>(
 }
 
 /// The journal of two callers: one legal history, with just the entries that each pass counted.
+#[tactic(auto, using(crate::proofs::SpineLaws::firsts_whole))]
 pub(super) fn finished<N: Names + Send + Sync, R: Threads + Wait + Sync>(
     rt: &R,
     book: &Book<N>,

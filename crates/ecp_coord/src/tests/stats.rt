@@ -3,6 +3,7 @@ ghost use Rattle.std.specs.Prelude.{◌≡◌, ℕ, ◌<◌, ◌≤◌, IfOk, fa
 ghost use Rattle.ecp_shape.specs.declared.limits.TheConstants.{MAX_NAME};
 ghost use Rattle.ecp_book.specs.Logs.{logs_of};
 ghost use Rattle.ecp_node.specs.Nodes.{start_of};
+ghost use Rattle.ecp_sequencer.specs.Passes.{IsWhole};
 ghost use Rattle.ecp_coord.specs.Puts.{IsReserved};
 
 use super::worked::{Scene, lose, put, set_up};
@@ -109,6 +110,7 @@ fn reserved<N: Names>(
     book: &Book<N>,
     pass: &mut Pass<N>,
 ) -> Result<Reservation<N>, Fail>
+    requires whole { IsWhole pass.old }
     ensures reserved { IfOk result (λ res. IsReserved N.shape N.told pass.new res) }
     ensures len { IfOk result (λ res. res.len ≡ 0) }
 {
@@ -129,6 +131,8 @@ fn stat<N: Names>(
 ) -> Result<Act, NoMemory>
     requires some { 1 ≤ length name.now }
     requires short { length name.now ≤ MAX_NAME }
+    requires whole { IsWhole pass.old }
+    ensures whole { IsWhole pass.new }
 {
     let deed = Deed::Stat {
         name: Name::new(name),

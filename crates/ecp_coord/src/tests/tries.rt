@@ -2,6 +2,7 @@
 ghost use Rattle.std.specs.Prelude.{◌≡◌, ℕ, ◌<◌, IfOk, false, true};
 ghost use Rattle.ecp_book.specs.Logs.{logs_of};
 ghost use Rattle.ecp_node.specs.Nodes.{start_of};
+ghost use Rattle.ecp_sequencer.specs.Passes.{IsWhole};
 ghost use Rattle.ecp_coord.specs.OneByte.{AreRowsOf};
 ghost use Rattle.ecp_coord.specs.Puts.{IsReserved};
 
@@ -68,6 +69,8 @@ fn first_try<N: Names, R: Abort>(
     nodes: &mut [Node<N, MemStore>],
 ) -> Result<Reservation<N>, Fail>
     requires names { (N.shape ≡ SHAPE) × (N.told ≡ false) }
+    requires whole { IsWhole pass.old }
+    requires other { IsWhole other.old }
     ensures reserved { IfOk result (λ res. IsReserved N.shape N.told pass.new res) }
     ensures len { IfOk result (λ res. res.len ≡ 1) }
 {

@@ -2,6 +2,7 @@
 ghost use Rattle.std.specs.Prelude.{◌≡◌, ◌+◌, IfOk};
 ghost use Rattle.ecp_shape.specs.Range.{IsInRange};
 ghost use Rattle.ecp_book.specs.Logs.{logs_of};
+ghost use Rattle.ecp_sequencer.specs.Passes.{IsWhole};
 ghost use Rattle.ecp_coord.specs.Puts.{IsReserved};
 
 use super::worked::{again, lose, opened_over, reserved};
@@ -100,8 +101,10 @@ fn again_each<N: Names>(
     res: &mut Reservation<N>,
     count: u32,
 ) -> Result<(), Fail>
-    requires { IsReserved N.shape N.told pass.old res.old }
-    ensures { IfOk result (λ _. IsReserved N.shape N.told pass.new res.new) }
+    requires reserved { IsReserved N.shape N.told pass.old res.old }
+    requires other { IsWhole other.old }
+    ensures reserved { IfOk result (λ _. IsReserved N.shape N.told pass.new res.new) }
+    ensures other { IsWhole other.new }
 {
     for node in 0..count {
         lose(coord, book, other, node)?;

@@ -4,6 +4,7 @@ ghost use Rattle.ecp_shape.specs.Range.{IsInRange};
 ghost use Rattle.ecp_book.specs.Logs.{empty_log, history_log, logs_of, node_log};
 ghost use Rattle.ecp_node.specs.Nodes.{start_of};
 ghost use Rattle.ecp_history.specs.table.Placement.{nodes_in};
+ghost use Rattle.ecp_sequencer.specs.Passes.{IsWhole, first_passes};
 ghost use Rattle.ecp_coord.specs.Coords.{AreNodeLogs};
 ghost use Rattle.ecp_coord.specs.OneByte.{AreRowsOf, IfOvertaken, IsRowOf};
 ghost use Rattle.ecp_coord.specs.Puts.{IsReserved};
@@ -36,6 +37,8 @@ pub(super) fn set_up<N: Names>(alloc: Global, blank: Blank, shape: Shape) -> Res
     requires names { (N.callers ≡ CALLERS) × (N.spare_hands ≡ SPARE) × (N.shape ≡ shape) }
     requires told { N.told ≡ false }
     requires stores { (m : ℕ) → m < 3 → start_of N.stores m ≡ record { faults = 0; faultless = true } }
+    ensures pass { IfOk result (λ o. IsWhole o.pass) }
+    ensures other { IfOk result (λ o. IsWhole o.other) }
 {
     let Parts {
         book,
@@ -65,6 +68,7 @@ pub(super) fn opened_over<N: Names>(
     requires book { (blank ≡ N.book) × (logs_of blank ≡ shape.nodes + 9) }
     requires names { (N.callers ≡ CALLERS) × (N.spare_hands ≡ SPARE) × (N.shape ≡ shape) }
     ensures nodes { IfOk result (λ o. AreNodeLogs shape.nodes o.nodes.items) }
+    ensures passes { IfOk result (λ o. o.passes.items ≡ first_passes 1 2) }
 {
     let (book, mut keepers) = Book::<N>::open(alloc, blank)?;
     let ties = keepers.split_off(1 + shape.nodes as usize)?;
@@ -91,6 +95,7 @@ fn in_memory<N: Names>(
     requires told { N.told ≡ false }
     requires logs { AreNodeLogs 3 keepers.items }
     requires stores { (m : ℕ) → m < 3 → start_of N.stores m ≡ record { faults = 0; faultless = true } }
+    ensures pass { pass.new ≡ pass.old }
 {
     let mut nodes = Vec::with_capacity(alloc, keepers.len())?;
     while let Some(keeper) = keepers.pop() {
@@ -173,8 +178,10 @@ pub(super) fn reserved<N: Names>(
     book: &Book<N>,
     pass: &mut Pass<N>,
 ) -> Result<Reservation<N>, Fail>
+    requires whole { IsWhole pass.old }
     ensures reserved { IfOk result (λ res. IsReserved N.shape N.told pass.new res) }
     ensures len { IfOk result (λ res. res.len ≡ 1) }
+    ensures whole { IsWhole pass.new }
 {
     let name = Name::new("a");
     coord.begin(book, pass, Deed::Put { name, len: 1 })?;
@@ -207,7 +214,10 @@ pub(super) fn lose<N: Names>(
     book: &Book<N>,
     pass: &mut Pass<N>,
     node: u32,
-) -> Result<NodeAct, NoMemory> {
+) -> Result<NodeAct, NoMemory>
+    requires whole { IsWhole pass.old }
+    ensures whole { IsWhole pass.new }
+{
     coord.begin(book, pass, Deed::Lose { node })?;
     Ok(coord.lose(book, pass, node))
 }
@@ -229,6 +239,7 @@ pub(super) fn publish<N: Names>(
     requires rows { AreRowsOf res.old shape.n rows.items }
     ensures overtaken { IfOvertaken result (IsReserved N.shape N.told pass.new res.new) }
     ensures same { res.new ≡ res.old }
+    ensures whole { IsWhole pass.new }
 {
     coord.publish(book, pass, res, rows, &[0x41])
 }
@@ -245,6 +256,8 @@ pub(super) fn put<N: Names>(
     requires range { IsInRange shape }
     requires byte { (shape.k ≡ 1) × (shape.block ≡ 1) }
     requires names { (N.shape ≡ shape) × (N.told ≡ false) }
+    requires whole { IsWhole pass.old }
+    ensures whole { IsWhole pass.new }
 {
     let mut res = reserved(coord, book, pass)?;
     let rows = rows_of(alloc, book, nodes, &res, shape.n as u8)?;

@@ -16,12 +16,12 @@ use std::thread::Threads;
 
 /// What the layer above notes.
 #[derive(Drop)]
-struct Plan(u64);
+pub(super) struct Plan(pub(super) u64);
 
 impl Entered for Plan {
     ghost use Rattle.std.specs.Prelude.{[], ◌∷◌};
 
-    ghost item = { λ p. 2 ∷ p.0 ∷ [] };
+    ghost item = { λ p. 3 ∷ p.0 ∷ [] };
 }
 
 #[test]

@@ -1,6 +1,7 @@
 //! The calls of a session, one after another.
 ghost use Rattle.std.specs.Prelude.{◌≡◌, ◌≤◌, [], IfOk, OnOk, length, vec_capacity};
 ghost use mathlib.Core.List.{IsPrefix};
+ghost use Rattle.ecp_sequencer.specs.Passes.{IsWhole};
 ghost use Rattle.ecp_service.specs.Callers.{ServedNext};
 ghost use Rattle.ecp_service.specs.Served.{AnsweredCall};
 ghost use Rattle.ecp_service.specs.Servable.{EachServable, IsServable};
@@ -27,9 +28,11 @@ pub(super) fn serve_next<N: Names, S: Store + Drop, G: Gate, R: Wait>(
 ) -> Result<(), NoMemory>
     requires room { length calls.now ≤ vec_capacity answers.old }
     requires servable { EachServable calls.now }
+    requires whole { IsWhole pass.old }
     ensures served { OnOk result (ServedNext N.shape N.told phase calls.now answers.old.items pass.old answers.new.items pass.new) }
     ensures grows { IsPrefix pass.old.front pass.new.front }
     ensures room { vec_capacity answers.new ≡ vec_capacity answers.old }
+    ensures whole { IsWhole pass.new }
 {
     while let Some(planned) = calls.get(answers.len()) {
         if planned.phase != phase {
@@ -41,6 +44,7 @@ pub(super) fn serve_next<N: Names, S: Store + Drop, G: Gate, R: Wait>(
 }
 
 /// Serves a call, and gives its answer.
+#[tactic(auto, using(crate::proofs::AnswerLaws::join_answered, crate::proofs::AnswerLaws::lose_answered))]
 fn serve<N: Names, S: Store + Drop, G: Gate, R: Wait>(
     rt: &R,
     alloc: Global,
@@ -48,9 +52,11 @@ fn serve<N: Names, S: Store + Drop, G: Gate, R: Wait>(
     pass: &mut Pass<N>,
     call: &Call,
 ) -> Result<Answer, NoMemory>
-    requires { IsServable call.now }
+    requires servable { IsServable call.now }
+    requires whole { IsWhole pass.old }
     ensures answered { IfOk result (λ a. AnsweredCall N.shape N.told pass.old call.now a pass.new) }
     ensures grows { IsPrefix pass.old.front pass.new.front }
+    ensures whole { IsWhole pass.new }
 {
     match call {
         Call::Put { name, bytes } => {

@@ -5,6 +5,7 @@ use Rattle.ecp_sequencer.specs.Notes.{note, entering_of}
 use Rattle.ecp_sequencer.specs.Passes.{PassState}
 use Rattle.ecp_sequencer.specs.Sequencers.{SequencerState}
 use Rattle.ecp_sequencer.specs.Steps.{Event}
+use Rattle.ecp_sequencer.proofs.StepLaws.{steps_whole}
 use Rattle.ecp_coord.specs.Calls.{part_of}
 use Rattle.ecp_coord.proofs.OpeningLaws.{part_open, part_same}
 use Rattle.ecp_coord.proofs.entering.enter_part.Goals as goal
@@ -23,5 +24,6 @@ returns g c =
       event = event;
       begins = c.requires.agree.begins;
       calls = c.enter.ensures.calls;
-      still_open = part_open v c.enter.new.pass c.args.deed c.requires.open c.args.part position c.args.act event.steps.noted c.enter.ensures.calls;
+      still_open = part_open v c.enter.new.pass c.args.deed c.requires.open c.args.part position c.args.act event.steps.noted c.enter.ensures.calls
+          (steps_whole v c.enter.new.pass (part_of v c.args.deed c.args.part position c.args.act ∷ []) (note position (room_noted v.notes - 1) (entering_of v.hand (part_of v c.args.deed c.args.part position c.args.act)) ∷ []) event.steps c.requires.open.whole);
     }

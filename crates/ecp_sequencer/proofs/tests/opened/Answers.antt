@@ -1,4 +1,4 @@
-use Rattle.std.proofs.Common.{◌≡◌, ◌∙◌, ℕ, zero, suc, ◌+◌, ◌<◌, List, ◌∷◌, [], length, drop, Some, refl, ap, subst, sym, arith, length-drop}
+use Rattle.std.proofs.Common.{◌≡◌, ◌∙◌, ℕ, zero, suc, ◌+◌, ◌<◌, List, ◌∷◌, [], length, drop, Some, refl, ap, arith, length-drop}
 use Rattle.std.specs.Prelude.{slice_get}
 use Rattle.ecp_book.specs.Logs.{Known, empty_log, logs_of}
 use Rattle.ecp_sequencer.specs.Hands.{spoken_log}

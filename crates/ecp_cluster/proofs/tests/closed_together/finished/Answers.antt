@@ -6,7 +6,11 @@ use Rattle.ecp_sequencer.specs.Passes.{PassState, first_pass, first_passes}
 use Rattle.ecp_sequencer.specs.Rounds.{Worked}
 use Rattle.ecp_sequencer.specs.Sequencers.{SequencerState}
 use Rattle.ecp_sequencer.proofs.RoundLaws.{counts, first_of_two}
+use Rattle.ecp_coord.proofs.SpineLaws.{firsts_whole}
 use Rattle.ecp_cluster.proofs.tests.closed_together.finished.Goals as goal
+
+pub work_all-requires-clause-whole : goal.work_all-requires-clause-whole
+work_all-requires-clause-whole g c κs within = firsts_whole c.as_mut_slice.result.now (c.as_mut_slice.ensures.value ∙ c.requires.passes)
 
 pub returns : goal.returns
 returns g c =
@@ -26,6 +30,6 @@ returns g c =
           let in_old : caller < length old = omega (arith, lt, two) in
           let w : PassState = get_or new caller p in
           let worked : Worked (first_pass 1 caller) w =
-          subst (λ (v : PassState). Worked v w) (ap (λ (ps : List PassState). get_or ps caller p) firsts ∙ first_of_two caller p lt) (c.work_all.ensures caller p in_old) in
+          subst (λ (v : PassState). Worked v w) (ap (λ (ps : List PassState). get_or ps caller p) firsts ∙ first_of_two caller p lt) (c.work_all.ensures.worked caller p in_old) in
           (w.calls, counts s 1 caller w worked (settled caller p (omega (arith, in_old, c.work_all.auto.passes))));
     }

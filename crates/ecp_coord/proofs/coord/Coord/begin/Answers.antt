@@ -1,12 +1,12 @@
 use Rattle.std.proofs.Common.{[], OnOk, OnErr, sym, subst}
 use Rattle.ecp_catalog.specs.Catalogs.{CatalogState}
-use Rattle.ecp_sequencer.specs.Passes.{PassState}
+use Rattle.ecp_sequencer.specs.Passes.{IsWhole, PassState}
 use Rattle.ecp_sequencer.specs.Sequencers.{SequencerState}
 use Rattle.ecp_sequencer.specs.Steps.{Event}
 use Rattle.ecp_coord.specs.Calls.{Begins}
 use Rattle.ecp_coord.specs.Coords.{CoordParts, IsCoord, parts_of}
 use Rattle.ecp_coord.proofs.BeginLaws.{begin_fresh, begin_kept, begin_open}
-use Rattle.ecp_coord.proofs.FollowLaws.{IsMet}
+use Rattle.ecp_coord.proofs.FollowLaws.{IsMet, its_own}
 use Rattle.ecp_coord.proofs.KeepLaws.{with_catalog}
 use Rattle.ecp_coord.proofs.coord.Coord.begin.Goals as goal
 
@@ -29,7 +29,7 @@ invariant_of-self-2 g c =
       agree = c.meet.ensures.agree;
       kept = c.meet.ensures.kept;
       session = c.meet.ensures.session;
-      own = c.meet.ensures.own;
+      own = its_own g.N.Names.spare_hands v c.meet.ensures.places c.requires;
       in_range = c.meet.ensures.in_range;
     } in
     let made = begin_kept shape told g.N.Names.callers g.N.Names.spare_hands c.begin.result s t v w p c.args.deed c.self.invariant met ok err in
@@ -37,8 +37,8 @@ invariant_of-self-2 g c =
 
 pub returns-clause-open : goal.returns-clause-open
 returns-clause-open g c =
-    begin_open g.N.Names.shape g.N.Names.told c.begin.result c.meet.new.self c.begin.new.self c.meet.new.pass c.begin.new.pass c.args.deed c.begin.ensures.ok c.begin.ensures.counted
+    begin_open g.N.Names.shape g.N.Names.told c.begin.result c.meet.new.self c.begin.new.self c.meet.new.pass c.begin.new.pass c.args.deed (subst (λ (p : PassState). IsWhole p) (sym c.meet.ensures.pass) c.requires) c.begin.ensures.ok c.begin.ensures.counted
 
 pub returns-clause-fresh : goal.returns-clause-fresh
 returns-clause-fresh g c =
-    begin_fresh g.N.Names.shape g.N.Names.told c.begin.result c.meet.new.self c.begin.new.self c.meet.new.pass c.begin.new.pass c.args.deed c.begin.ensures.ok c.begin.ensures.counted
+    begin_fresh g.N.Names.shape g.N.Names.told c.begin.result c.meet.new.self c.begin.new.self c.meet.new.pass c.begin.new.pass c.args.deed (subst (λ (p : PassState). IsWhole p) (sym c.meet.ensures.pass) c.requires) c.begin.ensures.ok c.begin.ensures.counted

@@ -10,7 +10,7 @@ use Rattle.ecp_coord.specs.Calls.{Ends, EndsBy, HasOpen, IsOpen, closing}
 use Rattle.ecp_coord.specs.Coords.{CoordParts, CoordState, parts_of}
 use Rattle.ecp_coord.proofs.ClosingLaws.{closes_nothing_stored, closing_goes, closing_kept}
 use Rattle.ecp_coord.proofs.EndWithLaws.{one_asked}
-use Rattle.ecp_coord.proofs.FollowLaws.{IsMet}
+use Rattle.ecp_coord.proofs.FollowLaws.{IsMet, its_own}
 use Rattle.ecp_coord.proofs.coord.Coord.close_call.Goals as goal
 
 pub end_with-requires-clause-has_open : goal.end_with-requires-clause-has_open
@@ -29,7 +29,7 @@ end_with-requires-clause-follows g c =
       agree = c.meet.ensures.agree;
       kept = c.meet.ensures.kept;
       session = c.meet.ensures.session;
-      own = c.meet.ensures.own;
+      own = its_own g.N.Names.spare_hands v c.meet.ensures.places c.requires.closes.is_open.whole;
       in_range = c.meet.ensures.in_range;
     } in
     let point : c.len-point.result ≡ length c.meet.new.self.history = c.len-point.ensures in
@@ -51,7 +51,7 @@ invariant_of-self g c =
       agree = c.meet.ensures.agree;
       kept = c.meet.ensures.kept;
       session = c.meet.ensures.session;
-      own = c.meet.ensures.own;
+      own = its_own g.N.Names.spare_hands v c.meet.ensures.places c.requires.closes.is_open.whole;
       in_range = c.meet.ensures.in_range;
     } in
     let point : c.len-point.result ≡ length s.history = c.len-point.ensures ∙ ap (λ (x : SequencerState). length x.history) c.meet.ensures.same in

@@ -6,7 +6,7 @@ use Rattle.ecp_entry.specs.Told.{history_of}
 use Rattle.ecp_history.specs.Legal.{MayFollow}
 use Rattle.ecp_coord.specs.Calls.{Ends, IsOpen, ended}
 use Rattle.ecp_coord.specs.Refusals.{Refuses}
-use Rattle.ecp_coord.proofs.FollowLaws.{IsMet}
+use Rattle.ecp_coord.proofs.FollowLaws.{IsMet, its_own}
 use Rattle.ecp_coord.proofs.PlaceLaws.{ended_kept, refuses_by, seen}
 use Rattle.ecp_coord.proofs.PutCoverLaws.{put_covered}
 use Rattle.ecp_shape.specs.declared.shape.Shape.{Shape}
@@ -55,7 +55,7 @@ invariant_of-self g c =
       agree = c.meet.ensures.agree;
       kept = c.meet.ensures.kept;
       session = c.meet.ensures.session;
-      own = c.meet.ensures.own;
+      own = its_own spares v c.meet.ensures.places c.requires.reserved.is_open.whole;
       in_range = c.meet.ensures.in_range;
     } in
     let begins : IsPrefix res.front.items s.history = subst (λ (x : SequencerState). IsPrefix res.front.items x.history) c.meet.ensures.same c.meet_front.ensures.begins in

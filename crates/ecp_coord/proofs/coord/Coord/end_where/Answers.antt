@@ -12,7 +12,7 @@ use Rattle.ecp_coord.specs.Coords.{CoordParts, CoordState, IsCoord, heard, parts
 use Rattle.ecp_coord.specs.Refusals.{Refuses, SaysWhy}
 use Rattle.ecp_coord.specs.Numbers.{open_numbers}
 use Rattle.ecp_coord.proofs.CoverLaws.{covered_free}
-use Rattle.ecp_coord.proofs.FollowLaws.{IsMet}
+use Rattle.ecp_coord.proofs.FollowLaws.{IsMet, its_own}
 use Rattle.ecp_coord.proofs.PlaceLaws.{ended_kept, refuses_by, seen}
 use Rattle.ecp_coord.proofs.coord.Coord.end_where.Goals as goal
 
@@ -53,7 +53,7 @@ invariant_of-self g c =
       agree = c.meet.ensures.agree;
       kept = c.meet.ensures.kept;
       session = c.meet.ensures.session;
-      own = c.meet.ensures.own;
+      own = its_own spares v c.meet.ensures.places c.requires.open.whole;
       in_range = c.meet.ensures.in_range;
     } in
     let ends : Ends shape told s v c.args.deed c.in-Some.act c.end_call.new.sequencer c.end_call.new.pass =

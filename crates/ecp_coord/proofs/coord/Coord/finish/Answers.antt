@@ -17,7 +17,7 @@ use Rattle.ecp_coord.proofs.CallLaws.{answered_kept, planned_free}
 use Rattle.ecp_coord.proofs.EndWithLaws.{one_asked}
 use Rattle.ecp_coord.proofs.CoverLaws.{covered_free}
 use Rattle.ecp_coord.proofs.FinishLaws.{data_goes}
-use Rattle.ecp_coord.proofs.FollowLaws.{IsMet}
+use Rattle.ecp_coord.proofs.FollowLaws.{IsMet, its_own}
 use Rattle.ecp_coord.proofs.coord.Coord.finish.Goals as goal
 
 pub end_with-requires-clause-agree : goal.end_with-requires-clause-agree
@@ -41,7 +41,7 @@ end_with-requires-clause-follows g c =
       agree = c.meet.ensures.agree;
       kept = c.meet.ensures.kept;
       session = c.meet.ensures.session;
-      own = c.meet.ensures.own;
+      own = its_own g.N.Names.spare_hands v c.meet.ensures.places c.requires.planned.is_open.whole;
       in_range = c.meet.ensures.in_range;
     } in
     subst (λ (x : SequencerState). (asked : Deed) → IsOpen c.meet.new.pass asked → MayFollow shape told (history_of x.history) (closing c.meet.new.pass asked plan.part plan.point act.Data c.args.bytes.now)) (sym same)
@@ -63,7 +63,7 @@ invariant_of-self g c =
       agree = c.meet.ensures.agree;
       kept = c.meet.ensures.kept;
       session = c.meet.ensures.session;
-      own = c.meet.ensures.own;
+      own = its_own g.N.Names.spare_hands v c.meet.ensures.places c.requires.planned.is_open.whole;
       in_range = c.meet.ensures.in_range;
     } in
     answered_kept shape told g.N.Names.callers g.N.Names.spare_hands s c.end_with.new.sequencer v c.end_with.new.pass p c.self.invariant met by.asked (place_of c.args.plan.now.part)

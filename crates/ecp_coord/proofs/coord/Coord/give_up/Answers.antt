@@ -7,7 +7,7 @@ use Rattle.ecp_history.specs.Legal.{MayFollow}
 use Rattle.ecp_plan.specs.declared.voids.Voids.{Voids}
 use Rattle.ecp_coord.specs.Calls.{Ends, IsOpen, ended}
 use Rattle.ecp_coord.specs.Puts.{GivesUpPlaces, IsOvertaken, end_of, found_by_renewing}
-use Rattle.ecp_coord.proofs.FollowLaws.{IsMet}
+use Rattle.ecp_coord.proofs.FollowLaws.{IsMet, its_own}
 use Rattle.ecp_coord.proofs.PlaceLaws.{ended_kept, seen}
 use Rattle.ecp_coord.proofs.PutCoverLaws.{put_covered}
 use Rattle.ecp_coord.proofs.RenewLaws.{end_says, give_up_follows, gives_up}
@@ -38,7 +38,7 @@ end_call-requires-clause-follows g c =
       agree = c.meet.ensures.agree;
       kept = c.meet.ensures.kept;
       session = c.meet.ensures.session;
-      own = c.meet.ensures.own;
+      own = its_own spares v c.meet.ensures.places c.requires.reserved.is_open.whole;
       in_range = c.meet.ensures.in_range;
     } in
     let res = c.args.res.now in
@@ -65,7 +65,7 @@ invariant_of-self g c =
       agree = c.meet.ensures.agree;
       kept = c.meet.ensures.kept;
       session = c.meet.ensures.session;
-      own = c.meet.ensures.own;
+      own = its_own spares v c.meet.ensures.places c.requires.reserved.is_open.whole;
       in_range = c.meet.ensures.in_range;
     } in
     let res = c.args.res.now in
@@ -95,7 +95,7 @@ returns-clause-done g c =
       agree = c.meet.ensures.agree;
       kept = c.meet.ensures.kept;
       session = c.meet.ensures.session;
-      own = c.meet.ensures.own;
+      own = its_own spares v c.meet.ensures.places c.requires.reserved.is_open.whole;
       in_range = c.meet.ensures.in_range;
     } in
     let res = c.args.res.now in

@@ -9,7 +9,7 @@ use Rattle.ecp_sequencer.specs.Facts.{room_noted}
 use Rattle.ecp_sequencer.specs.Notes.{note}
 use Rattle.ecp_sequencer.specs.Steps.{Event}
 use Rattle.ecp_coord.specs.Puts.{IsOvertaken, IsPlacedNow, Renews, booking_of, found_by_renewing}
-use Rattle.ecp_coord.proofs.FollowLaws.{IsMet}
+use Rattle.ecp_coord.proofs.FollowLaws.{IsMet, its_own}
 use Rattle.ecp_coord.proofs.PlaceLaws.{seen}
 use Rattle.ecp_coord.proofs.RenewLaws.{NextMade, next_coord, next_fits, next_renews}
 use Rattle.ecp_coord.proofs.ReserveLaws.{FrontRenewed, renewed_booked, renewed_front, renewed_pass, with_booking}
@@ -40,7 +40,7 @@ note-requires-clause-room g c =
       agree = c.meet.ensures.agree;
       kept = c.meet.ensures.kept;
       session = c.meet.ensures.session;
-      own = c.meet.ensures.own;
+      own = its_own spares v c.meet.ensures.places c.requires.reserved.is_open.whole;
       in_range = c.meet.ensures.in_range;
     } in
     let res = c.args.res.now in
@@ -73,7 +73,7 @@ index_mut-requires g c =
       agree = c.meet.ensures.agree;
       kept = c.meet.ensures.kept;
       session = c.meet.ensures.session;
-      own = c.meet.ensures.own;
+      own = its_own spares v c.meet.ensures.places c.requires.reserved.is_open.whole;
       in_range = c.meet.ensures.in_range;
     } in
     let res = c.args.res.now in
@@ -120,7 +120,7 @@ overflow_sub-index_mut g c =
       agree = c.meet.ensures.agree;
       kept = c.meet.ensures.kept;
       session = c.meet.ensures.session;
-      own = c.meet.ensures.own;
+      own = its_own spares v c.meet.ensures.places c.requires.reserved.is_open.whole;
       in_range = c.meet.ensures.in_range;
     } in
     let res = c.args.res.now in
@@ -169,7 +169,7 @@ overflow_add-self g c =
       agree = c.meet.ensures.agree;
       kept = c.meet.ensures.kept;
       session = c.meet.ensures.session;
-      own = c.meet.ensures.own;
+      own = its_own spares v c.meet.ensures.places c.requires.reserved.is_open.whole;
       in_range = c.meet.ensures.in_range;
     } in
     let res = c.args.res.now in
@@ -215,7 +215,7 @@ invariant_of-self g c =
       agree = c.meet.ensures.agree;
       kept = c.meet.ensures.kept;
       session = c.meet.ensures.session;
-      own = c.meet.ensures.own;
+      own = its_own spares v c.meet.ensures.places c.requires.reserved.is_open.whole;
       in_range = c.meet.ensures.in_range;
     } in
     let res = c.args.res.now in
@@ -266,7 +266,7 @@ returns g c =
       agree = c.meet.ensures.agree;
       kept = c.meet.ensures.kept;
       session = c.meet.ensures.session;
-      own = c.meet.ensures.own;
+      own = its_own spares v c.meet.ensures.places c.requires.reserved.is_open.whole;
       in_range = c.meet.ensures.in_range;
     } in
     let res = c.args.res.now in

@@ -11,7 +11,7 @@ use Rattle.ecp_coord.specs.Calls.{Ends, ended}
 use Rattle.ecp_coord.specs.Coords.{CoordParts, CoordState, IsCoord, parts_of}
 use Rattle.ecp_coord.specs.Joining.{HasNext, after_joining, found_by_joining}
 use Rattle.ecp_coord.specs.Losing.{act_of}
-use Rattle.ecp_coord.proofs.FollowLaws.{IsMet}
+use Rattle.ecp_coord.proofs.FollowLaws.{IsMet, its_own}
 use Rattle.ecp_coord.proofs.KeepLaws.{with_catalog}
 use Rattle.ecp_coord.proofs.JoinLaws.{join_goes, join_next, join_can, join_kept}
 use Rattle.ecp_coord.proofs.coord.Coord.join.Goals as goal
@@ -23,7 +23,7 @@ find-found-requires g c =
       agree = c.meet.ensures.agree;
       kept = c.meet.ensures.kept;
       session = c.meet.ensures.session;
-      own = c.meet.ensures.own;
+      own = its_own g.N.Names.spare_hands c.args.pass.now c.meet.ensures.places c.requires.open.whole;
       in_range = c.meet.ensures.in_range;
     } in
     join_next g.N.Names.shape g.N.Names.told g.N.Names.callers g.N.Names.spare_hands c.self.inside.sequencer c.args.pass.now p c.args.node c.self.invariant met c.meet.ensures.short
@@ -50,7 +50,7 @@ update-requires g c =
       agree = c.meet.ensures.agree;
       kept = c.meet.ensures.kept;
       session = c.meet.ensures.session;
-      own = c.meet.ensures.own;
+      own = its_own g.N.Names.spare_hands c.args.pass.now c.meet.ensures.places c.requires.open.whole;
       in_range = c.meet.ensures.in_range;
     } in
     let next : HasNext c.self.inside.catalog c.args.node =
@@ -73,7 +73,7 @@ invariant_of-self g c =
       agree = c.meet.ensures.agree;
       kept = c.meet.ensures.kept;
       session = c.meet.ensures.session;
-      own = c.meet.ensures.own;
+      own = its_own g.N.Names.spare_hands c.args.pass.now c.meet.ensures.places c.requires.open.whole;
       in_range = c.meet.ensures.in_range;
     } in
     let made = join_kept shape told g.N.Names.callers g.N.Names.spare_hands s t c.args.pass.now c.end_call.new.pass p c.args.node c.find-found.result c.self.invariant met c.requires.open found_is ends in

@@ -10,7 +10,7 @@ use Rattle.ecp_sequencer.specs.Sequencers.{SequencerState}
 use Rattle.ecp_coord.specs.Calls.{Ends, ended}
 use Rattle.ecp_coord.specs.Coords.{CoordParts, CoordState, IsCoord, parts_of}
 use Rattle.ecp_coord.specs.Losing.{CanLose, act_of, after_losing, found_by_losing}
-use Rattle.ecp_coord.proofs.FollowLaws.{IsMet}
+use Rattle.ecp_coord.proofs.FollowLaws.{IsMet, its_own}
 use Rattle.ecp_coord.proofs.KeepLaws.{with_catalog}
 use Rattle.ecp_coord.proofs.LoseLaws.{lose_goes, lose_can, lose_kept}
 use Rattle.ecp_coord.proofs.coord.Coord.lose.Goals as goal
@@ -38,7 +38,7 @@ update-requires g c =
       agree = c.meet.ensures.agree;
       kept = c.meet.ensures.kept;
       session = c.meet.ensures.session;
-      own = c.meet.ensures.own;
+      own = its_own g.N.Names.spare_hands c.args.pass.now c.meet.ensures.places c.requires.open.whole;
       in_range = c.meet.ensures.in_range;
     } in
     subst (λ (n : ℕ). CanLose c.self.inside.catalog c.find-found.result c.args.node n) at
@@ -61,7 +61,7 @@ invariant_of-self g c =
       agree = c.meet.ensures.agree;
       kept = c.meet.ensures.kept;
       session = c.meet.ensures.session;
-      own = c.meet.ensures.own;
+      own = its_own g.N.Names.spare_hands c.args.pass.now c.meet.ensures.places c.requires.open.whole;
       in_range = c.meet.ensures.in_range;
     } in
     let made = lose_kept shape told g.N.Names.callers g.N.Names.spare_hands s t c.args.pass.now c.end_call.new.pass p c.args.node c.find-found.result c.self.invariant met c.requires.open found_is ends in

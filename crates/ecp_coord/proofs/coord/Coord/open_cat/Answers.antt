@@ -9,7 +9,7 @@ use Rattle.ecp_sequencer.specs.Sequencers.{SequencerState}
 use Rattle.ecp_coord.specs.Calls.{IsFresh}
 use Rattle.ecp_coord.specs.Coords.{CoordParts, CoordState, parts_of}
 use Rattle.ecp_coord.specs.Opening.{Opens, found_by_opening, opening}
-use Rattle.ecp_coord.proofs.FollowLaws.{IsMet}
+use Rattle.ecp_coord.proofs.FollowLaws.{IsMet, its_own}
 use Rattle.ecp_coord.proofs.OpeningLaws.{opening_goes, opening_kept}
 use Rattle.ecp_coord.proofs.coord.Coord.open_cat.Goals as goal
 
@@ -26,7 +26,7 @@ enter-requires-clause-follows g c =
       agree = c.meet.ensures.agree;
       kept = c.meet.ensures.kept;
       session = c.meet.ensures.session;
-      own = c.meet.ensures.own;
+      own = its_own spares v c.meet.ensures.places c.requires.fresh.is_open.whole;
       in_range = c.meet.ensures.in_range;
     } in
     let name : List ℕ = c.new-name.result in
@@ -49,7 +49,7 @@ invariant_of-self g c =
       agree = c.meet.ensures.agree;
       kept = c.meet.ensures.kept;
       session = c.meet.ensures.session;
-      own = c.meet.ensures.own;
+      own = its_own spares v c.meet.ensures.places c.requires.fresh.is_open.whole;
       in_range = c.meet.ensures.in_range;
     } in
     let name : List ℕ = c.new-name.result in

@@ -22,9 +22,9 @@ use Rattle.ecp_coord.specs.Coords.{CoordParts, CoordState, IsCoord, heard, parts
 use Rattle.ecp_coord.specs.Plans.{Plans, RefusesPlan, planning_of, refusal_of, sought}
 use Rattle.ecp_coord.proofs.AttemptLaws.{first_plans, first_stamped, found_can, state}
 use Rattle.ecp_coord.proofs.CallLaws.{block_free, planned_kept, waited_kept}
-use Rattle.ecp_coord.proofs.FollowLaws.{IsMet}
+use Rattle.ecp_coord.proofs.FollowLaws.{IsMet, its_own}
 use Rattle.ecp_coord.proofs.KeepLaws.{with_catalog}
-use Rattle.ecp_coord.proofs.PlanningLaws.{asking_of, event_met, refuse_goes, refuse_met, refuses_now}
+use Rattle.ecp_coord.proofs.PlanningLaws.{asking_of, event_met, refuse_goes, refuse_met, refuses_now, sought_whole}
 use Rattle.ecp_coord.proofs.RefuseLaws.{refused_kept}
 use Rattle.ecp_coord.proofs.coord.Coord.plan_block.Goals as goal
 
@@ -46,7 +46,7 @@ refuse-requires-clause-has_open g c =
       agree = c.meet.ensures.agree;
       kept = c.meet.ensures.kept;
       session = c.meet.ensures.session;
-      own = c.meet.ensures.own;
+      own = its_own spares v c.meet.ensures.places (sought_whole shape v c.args.part c.args.name.now c.args.index c.requires);
       in_range = c.meet.ensures.in_range;
     } in
     let asking = asking_of shape told callers spares s v p c.self.invariant met c.args.part c.args.name.now c.args.index c.requires in
@@ -65,7 +65,7 @@ refuse-requires-clause-follows g c =
       agree = c.meet.ensures.agree;
       kept = c.meet.ensures.kept;
       session = c.meet.ensures.session;
-      own = c.meet.ensures.own;
+      own = its_own spares v c.meet.ensures.places (sought_whole shape v c.args.part c.args.name.now c.args.index c.requires);
       in_range = c.meet.ensures.in_range;
     } in
     refuse_goes shape told callers spares s v p c.self.invariant met c.meet.new.self c.meet.new.pass c.meet.ensures.same c.meet.ensures.pass c.args.part c.args.name.now c.args.index c.requires c.in-Err.why
@@ -84,7 +84,7 @@ invariant_of-self g c =
       agree = c.meet.ensures.agree;
       kept = c.meet.ensures.kept;
       session = c.meet.ensures.session;
-      own = c.meet.ensures.own;
+      own = its_own spares v c.meet.ensures.places (sought_whole shape v c.args.part c.args.name.now c.args.index c.requires);
       in_range = c.meet.ensures.in_range;
     } in
     let asking = asking_of shape told callers spares s v p c.self.invariant met c.args.part c.args.name.now c.args.index c.requires in
@@ -134,7 +134,7 @@ first_attempt-made-requires-clause-can g c =
       agree = c.meet.ensures.agree;
       kept = c.meet.ensures.kept;
       session = c.meet.ensures.session;
-      own = c.meet.ensures.own;
+      own = its_own spares v c.meet.ensures.places (sought_whole shape v c.args.part c.args.name.now c.args.index c.requires);
       in_range = c.meet.ensures.in_range;
     } in
     let name : List ℕ = c.args.name.now in
@@ -154,7 +154,7 @@ raise-requires g c =
       agree = c.meet.ensures.agree;
       kept = c.meet.ensures.kept;
       session = c.meet.ensures.session;
-      own = c.meet.ensures.own;
+      own = its_own spares v c.meet.ensures.places (sought_whole shape v c.args.part c.args.name.now c.args.index c.requires);
       in_range = c.meet.ensures.in_range;
     } in
     let making : Making = record { repair = c.self.inside.repairs; part = c.args.part; block = c.in-Ok.block; slice = c.self.inside.slice; cyclic = c.self.inside.cyclic } in
@@ -176,7 +176,7 @@ invariant_of-self-in-Ok-made g c =
       agree = c.meet.ensures.agree;
       kept = c.meet.ensures.kept;
       session = c.meet.ensures.session;
-      own = c.meet.ensures.own;
+      own = its_own spares v c.meet.ensures.places (sought_whole shape v c.args.part c.args.name.now c.args.index c.requires);
       in_range = c.meet.ensures.in_range;
     } in
     let name : List ℕ = c.args.name.now in
@@ -203,7 +203,7 @@ returns-in-Ok-made-clause-ok g c =
       agree = c.meet.ensures.agree;
       kept = c.meet.ensures.kept;
       session = c.meet.ensures.session;
-      own = c.meet.ensures.own;
+      own = its_own spares v c.meet.ensures.places (sought_whole shape v c.args.part c.args.name.now c.args.index c.requires);
       in_range = c.meet.ensures.in_range;
     } in
     let name : List ℕ = c.args.name.now in
@@ -254,7 +254,7 @@ invariant_of-self-in-Err-made g c =
       agree = c.meet.ensures.agree;
       kept = c.meet.ensures.kept;
       session = c.meet.ensures.session;
-      own = c.meet.ensures.own;
+      own = its_own spares v c.meet.ensures.places (sought_whole shape v c.args.part c.args.name.now c.args.index c.requires);
       in_range = c.meet.ensures.in_range;
     } in
     let event = event_met shape told s c.meet.new.self c.first_attempt-made.new.sequencer v c.meet.new.pass c.first_attempt-made.new.pass c.meet.ensures.same c.meet.ensures.pass [] c.in-Err-made.ensures.err in

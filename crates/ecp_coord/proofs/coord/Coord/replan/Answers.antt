@@ -21,7 +21,7 @@ use Rattle.ecp_coord.specs.Coords.{CoordParts, CoordState, IsCoord, heard, parts
 use Rattle.ecp_coord.specs.Plans.{Did, IsPlanned, Replans, Stands, end_of, first_void, found_by_moving, found_by_replanning, planning_of}
 use Rattle.ecp_coord.proofs.AttemptLaws.{state}
 use Rattle.ecp_coord.proofs.CallLaws.{planned_free, planned_kept, waited_kept}
-use Rattle.ecp_coord.proofs.FollowLaws.{IsMet}
+use Rattle.ecp_coord.proofs.FollowLaws.{IsMet, its_own}
 use Rattle.ecp_coord.proofs.KeepLaws.{with_catalog}
 use Rattle.ecp_coord.proofs.NextLaws.{ends_met, noted_met}
 use Rattle.ecp_coord.proofs.PlanningLaws.{event_met}
@@ -45,7 +45,7 @@ invariant_of-self g c =
     let v : PassState = c.args.pass.now in
     let p : CoordParts = parts_of c.self.inside.catalog c.self.inside.hands c.self.inside.slice c.self.inside.nodes.items c.self.inside.stripes c.self.inside.promises.items in
     let is : IsCoord shape told callers spares s p = c.self.invariant in
-    let met : IsMet shape told callers spares s v = record { agree = c.meet.ensures.agree; kept = c.meet.ensures.kept; session = c.meet.ensures.session; own = c.meet.ensures.own; in_range = c.meet.ensures.in_range } in
+    let met : IsMet shape told callers spares s v = record { agree = c.meet.ensures.agree; kept = c.meet.ensures.kept; session = c.meet.ensures.session; own = its_own spares v c.meet.ensures.places c.requires.is_open.whole; in_range = c.meet.ensures.in_range } in
     let same : c.meet_front.new.self ≡ s = c.meet_front.ensures.same ∙ c.meet.ensures.same in
     waited_kept shape told callers spares s c.renew.new.self v c.renew.new.pass p is met (event_met shape told s c.meet_front.new.self c.renew.new.self v c.meet.new.pass c.renew.new.pass same c.meet.ensures.pass [] c.renew.ensures.event)
 
@@ -61,7 +61,7 @@ returns-in_default-clause-answer g c =
     let planned : IsPlanned shape told v plan = c.requires in
     let p : CoordParts = parts_of c.self.inside.catalog c.self.inside.hands c.self.inside.slice c.self.inside.nodes.items c.self.inside.stripes c.self.inside.promises.items in
     let is : IsCoord shape told callers spares s p = c.self.invariant in
-    let met : IsMet shape told callers spares s v = record { agree = c.meet.ensures.agree; kept = c.meet.ensures.kept; session = c.meet.ensures.session; own = c.meet.ensures.own; in_range = c.meet.ensures.in_range } in
+    let met : IsMet shape told callers spares s v = record { agree = c.meet.ensures.agree; kept = c.meet.ensures.kept; session = c.meet.ensures.session; own = its_own spares v c.meet.ensures.places c.requires.is_open.whole; in_range = c.meet.ensures.in_range } in
     let begins : IsPrefix plan.front.items s.history = subst (λ (x : SequencerState). IsPrefix plan.front.items x.history) c.meet.ensures.same c.meet_front.ensures.begins in
     let first : c.first_void.result ≡ first_void plan (history_of s.history) = c.first_void.ensures ∙ first_is shape told callers spares s v p is met plan planned begins in
     let none : first_void plan (history_of s.history) ≡ None = sym first ∙ c.in_default.is in
@@ -117,7 +117,7 @@ next_attempt-requires-clause-can g c =
     let planned : IsPlanned shape told v plan = c.requires in
     let p : CoordParts = parts_of c.self.inside.catalog c.self.inside.hands c.self.inside.slice c.self.inside.nodes.items c.self.inside.stripes c.self.inside.promises.items in
     let is : IsCoord shape told callers spares s p = c.self.invariant in
-    let met : IsMet shape told callers spares s v = record { agree = c.meet.ensures.agree; kept = c.meet.ensures.kept; session = c.meet.ensures.session; own = c.meet.ensures.own; in_range = c.meet.ensures.in_range } in
+    let met : IsMet shape told callers spares s v = record { agree = c.meet.ensures.agree; kept = c.meet.ensures.kept; session = c.meet.ensures.session; own = its_own spares v c.meet.ensures.places c.requires.is_open.whole; in_range = c.meet.ensures.in_range } in
     let begins : IsPrefix plan.front.items s.history = subst (λ (x : SequencerState). IsPrefix plan.front.items x.history) c.meet.ensures.same c.meet_front.ensures.begins in
     let first : c.first_void.result ≡ first_void plan (history_of s.history) = c.first_void.ensures ∙ first_is shape told callers spares s v p is met plan planned begins in
     let at : first_void plan (history_of s.history) ≡ Some c.in-Some.at = sym first ∙ c.in-Some.is in
@@ -151,7 +151,7 @@ next_attempt-requires-clause-most g c =
     let planned : IsPlanned shape told v plan = c.requires in
     let p : CoordParts = parts_of c.self.inside.catalog c.self.inside.hands c.self.inside.slice c.self.inside.nodes.items c.self.inside.stripes c.self.inside.promises.items in
     let is : IsCoord shape told callers spares s p = c.self.invariant in
-    let met : IsMet shape told callers spares s v = record { agree = c.meet.ensures.agree; kept = c.meet.ensures.kept; session = c.meet.ensures.session; own = c.meet.ensures.own; in_range = c.meet.ensures.in_range } in
+    let met : IsMet shape told callers spares s v = record { agree = c.meet.ensures.agree; kept = c.meet.ensures.kept; session = c.meet.ensures.session; own = its_own spares v c.meet.ensures.places c.requires.is_open.whole; in_range = c.meet.ensures.in_range } in
     let begins : IsPrefix plan.front.items s.history = subst (λ (x : SequencerState). IsPrefix plan.front.items x.history) c.meet.ensures.same c.meet_front.ensures.begins in
     let first : c.first_void.result ≡ first_void plan (history_of s.history) = c.first_void.ensures ∙ first_is shape told callers spares s v p is met plan planned begins in
     let at : first_void plan (history_of s.history) ≡ Some c.in-Some.at = sym first ∙ c.in-Some.is in
@@ -171,7 +171,7 @@ raise-requires g c =
     let planned : IsPlanned shape told v plan = c.requires in
     let p : CoordParts = parts_of c.self.inside.catalog c.self.inside.hands c.self.inside.slice c.self.inside.nodes.items c.self.inside.stripes c.self.inside.promises.items in
     let is : IsCoord shape told callers spares s p = c.self.invariant in
-    let met : IsMet shape told callers spares s v = record { agree = c.meet.ensures.agree; kept = c.meet.ensures.kept; session = c.meet.ensures.session; own = c.meet.ensures.own; in_range = c.meet.ensures.in_range } in
+    let met : IsMet shape told callers spares s v = record { agree = c.meet.ensures.agree; kept = c.meet.ensures.kept; session = c.meet.ensures.session; own = its_own spares v c.meet.ensures.places c.requires.is_open.whole; in_range = c.meet.ensures.in_range } in
     let same : c.meet_front.new.self ≡ s = c.meet_front.ensures.same ∙ c.meet.ensures.same in
     let begins : IsPrefix plan.front.items s.history = subst (λ (x : SequencerState). IsPrefix plan.front.items x.history) c.meet.ensures.same c.meet_front.ensures.begins in
     let first : c.first_void.result ≡ first_void plan (history_of s.history) = c.first_void.ensures ∙ first_is shape told callers spares s v p is met plan planned begins in
@@ -193,7 +193,7 @@ invariant_of-self-in_default-act g c =
     let planned : IsPlanned shape told v plan = c.requires in
     let p : CoordParts = parts_of c.self.inside.catalog c.self.inside.hands c.self.inside.slice c.self.inside.nodes.items c.self.inside.stripes c.self.inside.promises.items in
     let is : IsCoord shape told callers spares s p = c.self.invariant in
-    let met : IsMet shape told callers spares s v = record { agree = c.meet.ensures.agree; kept = c.meet.ensures.kept; session = c.meet.ensures.session; own = c.meet.ensures.own; in_range = c.meet.ensures.in_range } in
+    let met : IsMet shape told callers spares s v = record { agree = c.meet.ensures.agree; kept = c.meet.ensures.kept; session = c.meet.ensures.session; own = its_own spares v c.meet.ensures.places c.requires.is_open.whole; in_range = c.meet.ensures.in_range } in
     let same : c.meet_front.new.self ≡ s = c.meet_front.ensures.same ∙ c.meet.ensures.same in
     let begins : IsPrefix plan.front.items s.history = subst (λ (x : SequencerState). IsPrefix plan.front.items x.history) c.meet.ensures.same c.meet_front.ensures.begins in
     let event = noted_met shape told s c.meet_front.new.self c.next_attempt.new.sequencer v c.meet.new.pass c.next_attempt.new.pass same (planning_of c.next_attempt.new.plan) c.meet.ensures.pass
@@ -214,7 +214,7 @@ returns-in_default-act-clause-answer g c =
     let planned : IsPlanned shape told v plan = c.requires in
     let p : CoordParts = parts_of c.self.inside.catalog c.self.inside.hands c.self.inside.slice c.self.inside.nodes.items c.self.inside.stripes c.self.inside.promises.items in
     let is : IsCoord shape told callers spares s p = c.self.invariant in
-    let met : IsMet shape told callers spares s v = record { agree = c.meet.ensures.agree; kept = c.meet.ensures.kept; session = c.meet.ensures.session; own = c.meet.ensures.own; in_range = c.meet.ensures.in_range } in
+    let met : IsMet shape told callers spares s v = record { agree = c.meet.ensures.agree; kept = c.meet.ensures.kept; session = c.meet.ensures.session; own = its_own spares v c.meet.ensures.places c.requires.is_open.whole; in_range = c.meet.ensures.in_range } in
     let begins : IsPrefix plan.front.items s.history = subst (λ (x : SequencerState). IsPrefix plan.front.items x.history) c.meet.ensures.same c.meet_front.ensures.begins in
     let first : c.first_void.result ≡ first_void plan (history_of s.history) = c.first_void.ensures ∙ first_is shape told callers spares s v p is met plan planned begins in
     let at : first_void plan (history_of s.history) ≡ Some c.in-Some.at = sym first ∙ c.in-Some.is in
@@ -234,7 +234,7 @@ returns-in_default-act-clause-done g c =
     let planned : IsPlanned shape told v plan = c.requires in
     let p : CoordParts = parts_of c.self.inside.catalog c.self.inside.hands c.self.inside.slice c.self.inside.nodes.items c.self.inside.stripes c.self.inside.promises.items in
     let is : IsCoord shape told callers spares s p = c.self.invariant in
-    let met : IsMet shape told callers spares s v = record { agree = c.meet.ensures.agree; kept = c.meet.ensures.kept; session = c.meet.ensures.session; own = c.meet.ensures.own; in_range = c.meet.ensures.in_range } in
+    let met : IsMet shape told callers spares s v = record { agree = c.meet.ensures.agree; kept = c.meet.ensures.kept; session = c.meet.ensures.session; own = its_own spares v c.meet.ensures.places c.requires.is_open.whole; in_range = c.meet.ensures.in_range } in
     let same : c.meet_front.new.self ≡ s = c.meet_front.ensures.same ∙ c.meet.ensures.same in
     let begins : IsPrefix plan.front.items s.history = subst (λ (x : SequencerState). IsPrefix plan.front.items x.history) c.meet.ensures.same c.meet_front.ensures.begins in
     let first : c.first_void.result ≡ first_void plan (history_of s.history) = c.first_void.ensures ∙ first_is shape told callers spares s v p is met plan planned begins in
@@ -282,7 +282,7 @@ end_with-requires-clause-follows g c =
     let planned : IsPlanned shape told v plan = c.requires in
     let p : CoordParts = parts_of c.self.inside.catalog c.self.inside.hands c.self.inside.slice c.self.inside.nodes.items c.self.inside.stripes c.self.inside.promises.items in
     let is : IsCoord shape told callers spares s p = c.self.invariant in
-    let met : IsMet shape told callers spares s v = record { agree = c.meet.ensures.agree; kept = c.meet.ensures.kept; session = c.meet.ensures.session; own = c.meet.ensures.own; in_range = c.meet.ensures.in_range } in
+    let met : IsMet shape told callers spares s v = record { agree = c.meet.ensures.agree; kept = c.meet.ensures.kept; session = c.meet.ensures.session; own = its_own spares v c.meet.ensures.places c.requires.is_open.whole; in_range = c.meet.ensures.in_range } in
     let same : c.meet_front.new.self ≡ s = c.meet_front.ensures.same ∙ c.meet.ensures.same in
     let begins : IsPrefix plan.front.items s.history = subst (λ (x : SequencerState). IsPrefix plan.front.items x.history) c.meet.ensures.same c.meet_front.ensures.begins in
     let first : c.first_void.result ≡ first_void plan (history_of s.history) = c.first_void.ensures ∙ first_is shape told callers spares s v p is met plan planned begins in
@@ -301,7 +301,7 @@ invariant_of-self-2 g c =
     let v : PassState = c.args.pass.now in
     let p : CoordParts = parts_of c.self.inside.catalog c.self.inside.hands c.self.inside.slice c.self.inside.nodes.items c.self.inside.stripes c.self.inside.promises.items in
     let is : IsCoord shape told callers spares s p = c.self.invariant in
-    let met : IsMet shape told callers spares s v = record { agree = c.meet.ensures.agree; kept = c.meet.ensures.kept; session = c.meet.ensures.session; own = c.meet.ensures.own; in_range = c.meet.ensures.in_range } in
+    let met : IsMet shape told callers spares s v = record { agree = c.meet.ensures.agree; kept = c.meet.ensures.kept; session = c.meet.ensures.session; own = its_own spares v c.meet.ensures.places c.requires.is_open.whole; in_range = c.meet.ensures.in_range } in
     let same : c.meet_front.new.self ≡ s = c.meet_front.ensures.same ∙ c.meet.ensures.same in
     let says : end_of c.push.new.voids c.find-found.result ≡ Some c.in-Some-act.act = sym c.act.ensures ∙ c.in-Some-act.is in
     let ends : EndsAny shape told s v c.args.plan.now.part c.in-Some-act.act c.end_with.new.sequencer c.end_with.new.pass =
@@ -320,7 +320,7 @@ returns-clause-answer g c =
     let planned : IsPlanned shape told v plan = c.requires in
     let p : CoordParts = parts_of c.self.inside.catalog c.self.inside.hands c.self.inside.slice c.self.inside.nodes.items c.self.inside.stripes c.self.inside.promises.items in
     let is : IsCoord shape told callers spares s p = c.self.invariant in
-    let met : IsMet shape told callers spares s v = record { agree = c.meet.ensures.agree; kept = c.meet.ensures.kept; session = c.meet.ensures.session; own = c.meet.ensures.own; in_range = c.meet.ensures.in_range } in
+    let met : IsMet shape told callers spares s v = record { agree = c.meet.ensures.agree; kept = c.meet.ensures.kept; session = c.meet.ensures.session; own = its_own spares v c.meet.ensures.places c.requires.is_open.whole; in_range = c.meet.ensures.in_range } in
     let begins : IsPrefix plan.front.items s.history = subst (λ (x : SequencerState). IsPrefix plan.front.items x.history) c.meet.ensures.same c.meet_front.ensures.begins in
     let first : c.first_void.result ≡ first_void plan (history_of s.history) = c.first_void.ensures ∙ first_is shape told callers spares s v p is met plan planned begins in
     let at : first_void plan (history_of s.history) ≡ Some c.in-Some.at = sym first ∙ c.in-Some.is in
@@ -340,7 +340,7 @@ returns-clause-done g c =
     let planned : IsPlanned shape told v plan = c.requires in
     let p : CoordParts = parts_of c.self.inside.catalog c.self.inside.hands c.self.inside.slice c.self.inside.nodes.items c.self.inside.stripes c.self.inside.promises.items in
     let is : IsCoord shape told callers spares s p = c.self.invariant in
-    let met : IsMet shape told callers spares s v = record { agree = c.meet.ensures.agree; kept = c.meet.ensures.kept; session = c.meet.ensures.session; own = c.meet.ensures.own; in_range = c.meet.ensures.in_range } in
+    let met : IsMet shape told callers spares s v = record { agree = c.meet.ensures.agree; kept = c.meet.ensures.kept; session = c.meet.ensures.session; own = its_own spares v c.meet.ensures.places c.requires.is_open.whole; in_range = c.meet.ensures.in_range } in
     let same : c.meet_front.new.self ≡ s = c.meet_front.ensures.same ∙ c.meet.ensures.same in
     let begins : IsPrefix plan.front.items s.history = subst (λ (x : SequencerState). IsPrefix plan.front.items x.history) c.meet.ensures.same c.meet_front.ensures.begins in
     let first : c.first_void.result ≡ first_void plan (history_of s.history) = c.first_void.ensures ∙ first_is shape told callers spares s v p is met plan planned begins in

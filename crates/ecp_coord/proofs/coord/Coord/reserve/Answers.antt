@@ -15,7 +15,7 @@ use Rattle.ecp_sequencer.specs.Steps.{Event}
 use Rattle.ecp_coord.specs.Coords.{CoordParts, CoordState, IsCoord, heard, parts_of}
 use Rattle.ecp_coord.specs.Puts.{IsPlacedNow, Reserves, booking_of, hindered}
 use Rattle.ecp_coord.specs.Refusals.{Refuses}
-use Rattle.ecp_coord.proofs.FollowLaws.{IsMet}
+use Rattle.ecp_coord.proofs.FollowLaws.{IsMet, its_own}
 use Rattle.ecp_coord.proofs.PlaceLaws.{refuses_by, seen, stood_kept}
 use Rattle.ecp_coord.proofs.ReserveLaws.{FirstMade, FrontRenewed, first_coord, first_fits, first_reserves, renewed_booked, renewed_event, renewed_front, renewed_noted, renewed_pass, reserved_outline, reserved_room, reserved_serves, with_booking}
 use Rattle.ecp_coord.proofs.coord.Coord.reserve.Goals as goal
@@ -89,7 +89,7 @@ invariant_of-self-in-Err-note_taking g c =
       agree = c.meet.ensures.agree;
       kept = c.meet.ensures.kept;
       session = c.meet.ensures.session;
-      own = c.meet.ensures.own;
+      own = its_own spares v c.meet.ensures.places c.requires.fresh.is_open.whole;
       in_range = c.meet.ensures.in_range;
     } in
     let by : FrontRenewed shape told s c.meet.new.self c.renew.new.self v c.meet.new.pass c.renew.new.pass c.front-front.new.self = record {
@@ -146,7 +146,7 @@ overflow_mul-stripes g c =
       agree = c.meet.ensures.agree;
       kept = c.meet.ensures.kept;
       session = c.meet.ensures.session;
-      own = c.meet.ensures.own;
+      own = its_own spares v c.meet.ensures.places c.requires.fresh.is_open.whole;
       in_range = c.meet.ensures.in_range;
     } in
     let by : FrontRenewed shape told s c.meet.new.self c.renew.new.self v c.meet.new.pass c.renew.new.pass c.front-front.new.self = record {
@@ -194,7 +194,7 @@ overflow_add-self g c =
       agree = c.meet.ensures.agree;
       kept = c.meet.ensures.kept;
       session = c.meet.ensures.session;
-      own = c.meet.ensures.own;
+      own = its_own spares v c.meet.ensures.places c.requires.fresh.is_open.whole;
       in_range = c.meet.ensures.in_range;
     } in
     let by : FrontRenewed shape told s c.meet.new.self c.renew.new.self v c.meet.new.pass c.renew.new.pass c.front-front.new.self = record {
@@ -242,7 +242,7 @@ index_mut-requires g c =
       agree = c.meet.ensures.agree;
       kept = c.meet.ensures.kept;
       session = c.meet.ensures.session;
-      own = c.meet.ensures.own;
+      own = its_own spares v c.meet.ensures.places c.requires.fresh.is_open.whole;
       in_range = c.meet.ensures.in_range;
     } in
     let by : FrontRenewed shape told s c.meet.new.self c.renew.new.self v c.meet.new.pass c.renew.new.pass c.front-front.new.self = record {
@@ -291,7 +291,7 @@ invariant_of-self-2 g c =
       agree = c.meet.ensures.agree;
       kept = c.meet.ensures.kept;
       session = c.meet.ensures.session;
-      own = c.meet.ensures.own;
+      own = its_own spares v c.meet.ensures.places c.requires.fresh.is_open.whole;
       in_range = c.meet.ensures.in_range;
     } in
     let by : FrontRenewed shape told s c.meet.new.self c.renew.new.self v c.meet.new.pass c.renew.new.pass c.front-front.new.self = record {
@@ -340,7 +340,7 @@ returns-clause-ok g c =
       agree = c.meet.ensures.agree;
       kept = c.meet.ensures.kept;
       session = c.meet.ensures.session;
-      own = c.meet.ensures.own;
+      own = its_own spares v c.meet.ensures.places c.requires.fresh.is_open.whole;
       in_range = c.meet.ensures.in_range;
     } in
     let by : FrontRenewed shape told s c.meet.new.self c.renew.new.self v c.meet.new.pass c.renew.new.pass c.front-front.new.self = record {

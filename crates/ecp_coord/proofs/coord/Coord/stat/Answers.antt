@@ -9,7 +9,7 @@ use Rattle.ecp_sequencer.specs.Sequencers.{SequencerState}
 use Rattle.ecp_coord.specs.Calls.{Ends, IsOpen, ended}
 use Rattle.ecp_coord.specs.Coords.{CoordParts, CoordState, parts_of}
 use Rattle.ecp_coord.specs.Stating.{found_by_stating}
-use Rattle.ecp_coord.proofs.FollowLaws.{IsMet}
+use Rattle.ecp_coord.proofs.FollowLaws.{IsMet, its_own}
 use Rattle.ecp_coord.proofs.StatLaws.{file_numbers, stat_goes, stat_kept}
 use Rattle.ecp_coord.proofs.coord.Coord.stat.Goals as goal
 
@@ -31,7 +31,7 @@ end_call-requires-clause-follows g c =
       agree = c.meet.ensures.agree;
       kept = c.meet.ensures.kept;
       session = c.meet.ensures.session;
-      own = c.meet.ensures.own;
+      own = its_own spares v c.meet.ensures.places c.requires.open.whole;
       in_range = c.meet.ensures.in_range;
     } in
     let name : List ℕ = c.new-name.result in
@@ -54,7 +54,7 @@ invariant_of-self g c =
       agree = c.meet.ensures.agree;
       kept = c.meet.ensures.kept;
       session = c.meet.ensures.session;
-      own = c.meet.ensures.own;
+      own = its_own spares v c.meet.ensures.places c.requires.open.whole;
       in_range = c.meet.ensures.in_range;
     } in
     let name : List ℕ = c.new-name.result in

@@ -8,7 +8,7 @@ use Rattle.ecp_sequencer.specs.Facts.{room_noted}
 use Rattle.ecp_sequencer.specs.Notes.{note, entering_of}
 use Rattle.ecp_sequencer.specs.Steps.{Event, IsOwn}
 use Rattle.ecp_coord.specs.Puts.{Publishes, found_by_publishing, stored_by}
-use Rattle.ecp_coord.proofs.FollowLaws.{IsMet}
+use Rattle.ecp_coord.proofs.FollowLaws.{IsMet, its_own}
 use Rattle.ecp_coord.proofs.PlaceLaws.{seen}
 use Rattle.ecp_coord.proofs.PublishLaws.{MayStore, may_store, published_kept, same_stored, store_can, store_follows}
 use Rattle.ecp_shape.specs.declared.shape.Shape.{Shape}
@@ -41,7 +41,7 @@ enter-requires-clause-own g c =
       agree = c.meet.ensures.agree;
       kept = c.meet.ensures.kept;
       session = c.meet.ensures.session;
-      own = c.meet.ensures.own;
+      own = its_own spares v c.meet.ensures.places c.requires.reserved.is_open.whole;
       in_range = c.meet.ensures.in_range;
     } in
     let res = c.args.res.now in
@@ -67,7 +67,7 @@ enter-requires-clause-follows g c =
       agree = c.meet.ensures.agree;
       kept = c.meet.ensures.kept;
       session = c.meet.ensures.session;
-      own = c.meet.ensures.own;
+      own = its_own spares v c.meet.ensures.places c.requires.reserved.is_open.whole;
       in_range = c.meet.ensures.in_range;
     } in
     let res = c.args.res.now in
@@ -97,7 +97,7 @@ store-requires g c =
       agree = c.meet.ensures.agree;
       kept = c.meet.ensures.kept;
       session = c.meet.ensures.session;
-      own = c.meet.ensures.own;
+      own = its_own spares v c.meet.ensures.places c.requires.reserved.is_open.whole;
       in_range = c.meet.ensures.in_range;
     } in
     let res = c.args.res.now in
@@ -122,7 +122,7 @@ invariant_of-self g c =
       agree = c.meet.ensures.agree;
       kept = c.meet.ensures.kept;
       session = c.meet.ensures.session;
-      own = c.meet.ensures.own;
+      own = its_own spares v c.meet.ensures.places c.requires.reserved.is_open.whole;
       in_range = c.meet.ensures.in_range;
     } in
     let res = c.args.res.now in
@@ -151,7 +151,7 @@ returns-clause-done g c =
       agree = c.meet.ensures.agree;
       kept = c.meet.ensures.kept;
       session = c.meet.ensures.session;
-      own = c.meet.ensures.own;
+      own = its_own spares v c.meet.ensures.places c.requires.reserved.is_open.whole;
       in_range = c.meet.ensures.in_range;
     } in
     let res = c.args.res.now in

@@ -3,7 +3,7 @@ use Rattle.ecp_coord.proofs.SpineLaws.{called_lose, began_open}
 use Rattle.ecp_coord.proofs.tests.spine.lose.Goals as goal
 
 pub lose-requires : goal.lose-requires
-lose-requires g c = record { «open» = began_open c.args.pass.now c.begin.new.pass (Lose c.args.node) c.in_ok-begin.ensures.ok }
+lose-requires g c = record { «open» = began_open c.args.pass.now c.begin.new.pass (Lose c.args.node) c.requires c.in_ok-begin.ensures.ok }
 
 pub returns-clause-ok : goal.returns-clause-ok
 returns-clause-ok g c =

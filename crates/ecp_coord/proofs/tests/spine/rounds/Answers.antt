@@ -10,5 +10,5 @@ returns g c = λ k p lt.
     let two = c.round-2.new.passes in
     let in_one : k < length one = omega (arith, lt, c.round.auto.passes) in
     let in_up : k < length up = omega (arith, in_one, c.raise_all.auto.passes) in
-    worked_both (get_or old k p) (get_or one k p) (get_or two k p) (c.round.ensures k p lt)
-    (worked_raised (get_or one k p) (get_or up k p) (get_or two k p) (c.raise_all.ensures k p in_one) (c.round-2.ensures k p in_up))
+    worked_both (get_or old k p) (get_or one k p) (get_or two k p) (c.round.ensures.worked k p lt)
+    (worked_raised (get_or one k p) (get_or up k p) (get_or two k p) (c.raise_all.ensures.raised k p in_one) (c.round-2.ensures.worked k p in_up))

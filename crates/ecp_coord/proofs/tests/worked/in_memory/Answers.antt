@@ -29,4 +29,4 @@ node_of-requires-clause-start g c =
 pub loop-keeper-preserved : goal.loop-keeper-preserved
 loop-keeper-preserved g c =
     let less : length c.loop-keeper.keepers.items ≡ length c.pop.new.self.items + 1 = one_less _ _ _ c.in-Some.ensures.items in
-    record { few = omega (arith, c.loop-keeper.invariant.few, less); logs = fewer _ _ _ c.in-Some.ensures.items c.loop-keeper.invariant.logs }
+    record { few = omega (arith, c.loop-keeper.invariant.few, less); logs = fewer _ _ _ c.in-Some.ensures.items c.loop-keeper.invariant.logs; pass = c.front.ensures.kept ∙ c.loop-keeper.invariant.pass }

@@ -1,4 +1,4 @@
-use Rattle.std.proofs.Common.{◌≤◌, length, vec_len}
+use Rattle.std.proofs.Common.{◌≡◌, ◌≤◌, length, vec_len}
 use Rattle.ecp_coord.specs.Coords.{AreNodeLogs}
 use Rattle.ecp_coord.proofs.tests.worked.in_memory.Given as goal
 
@@ -6,6 +6,7 @@ abbrev pub invariant-loop-keeper : goal.invariant-loop-keeper
 invariant-loop-keeper g l = record {
   few : length l.keepers.items ≤ 3;
   logs : AreNodeLogs (length l.keepers.items) l.keepers.items;
+  pass : l.pass ≡ l.fn.pass;
 }
 
 abbrev pub decreases-loop-keeper : goal.decreases-loop-keeper

@@ -1,6 +1,7 @@
 use Rattle.std.proofs.Common.{◌≡◌, ◌∙◌, ℕ, ◌+◌, ◌*◌, ◌≤◌, List, length, take, drop, get_or, sym, ap, subst, arith, length-drop}
 use Rattle.ecp_book.specs.Logs.{Known, logs_of}
 use Rattle.ecp_sequencer.specs.Hands.{hands_of}
+use Rattle.ecp_sequencer.specs.Passes.{first_passes}
 use Rattle.ecp_sequencer.specs.Sequencers.{AreTies}
 use Rattle.ecp_coord.specs.Coords.{AreNodeLogs}
 use Rattle.ecp_coord.proofs.OpenLaws.{AreEmpty, of_history, of_nodes, of_ties}
@@ -46,4 +47,5 @@ returns g c =
     record {
       nodes = subst (λ (ks : List Known). AreNodeLogs nodes ks) (sym c.in_ok-coord.ensures.nodes)
           (nodes_are nodes logs keepers c.split_off.new.self.items c.in_ok-nodes.nodes.items (omega (arith, count)) size c.in_ok-book.ensures.empty c.in_ok-ties.ensures.items c.in_ok-nodes.ensures.tail);
+      passes = c.in_ok-coord.ensures.passes ∙ ap (λ (k : ℕ). first_passes g.N.Names.spare_hands k) c.requires.names.0 ∙ ap (λ (h : ℕ). first_passes h 2) c.requires.names.1;
     }

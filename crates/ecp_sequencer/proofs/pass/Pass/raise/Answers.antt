@@ -17,4 +17,5 @@ invariant_of-self g c =
       pass_longer g.N.Names.callers g.N.Names.spare_hands c.self.inside.front.log c.replace-old.new.dest.log c.self.inside.caller c.self.inside.calls c.self.inside.calls
           c.self.inside.front.items c.replace-old.new.dest.items c.self.inside.hand c.self.inside.spare.items c.self.invariant.0 (ap (λ (k : Known). k.log) now ∙ c.requires) longer (omega arith),
       c.self.invariant.1,
+      c.self.invariant.2,
     )

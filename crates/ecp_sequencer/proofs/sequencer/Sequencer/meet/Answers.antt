@@ -22,7 +22,7 @@ returns-clause-agree g c =
     let notes : notes_at (notes_of desks) own.hand ≡ own.notes =
     ap (notes_at (notes_of desks)) (sym at) ∙ desk_notes desks n d here c.index_mut.ensures.value ∙ c.meet-2.ensures.same in
     let s : SequencerState = seen history desks in
-    let v : PassState = pass_seen c.pass.inside.caller c.pass.inside.calls c.pass.inside.front.items own c.pass.inside.spare.items in
+    let v : PassState = pass_seen g.N.Names.spare_hands c.pass.inside.caller c.pass.inside.calls c.pass.inside.front.items own c.pass.inside.spare.items in
     let met : Agrees s v =
     agree g.N.Names.shape g.N.Names.told g.N.Names.callers g.N.Names.spare_hands s v c.pass.inside.front.log is.kept ps c.meet.ensures.prefix notes in
     subst (λ (t : SequencerState). Agrees t c.args.pass.now) c.self.view_is (subst (λ (w : PassState). Agrees s w) c.pass.view_is met)

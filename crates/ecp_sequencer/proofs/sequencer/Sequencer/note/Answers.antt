@@ -1,8 +1,12 @@
-use Rattle.std.proofs.Common.{◌-◌, ◌∙◌, sym, subst, arith}
-use Rattle.ecp_sequencer.specs.Passes.{AsksFor, HandNotes}
-use Rattle.ecp_sequencer.proofs.AskLaws.{asks_other}
+use Rattle.std.proofs.Common.{◌-◌, ◌∙◌, sym, ap, subst, arith}
+use Rattle.ecp_sequencer.specs.Passes.{IsLastCall, HandNotes, call_seen}
+use Rattle.ecp_sequencer.proofs.AskLaws.{last_other, open_other}
 use Rattle.ecp_sequencer.proofs.EventLaws.{noted_one}
 use Rattle.ecp_sequencer.proofs.sequencer.Sequencer.note.Goals as goal
+
+pub note-requires-clause-opened : goal.note-requires-clause-opened
+note-requires-clause-opened g c =
+    c.is_open-opened.ensures ∙ open_other c.index_mut-desk.result.now.notes c.len-point.result (c.room-room.result - 1) (g.E.Entered.item c.args.what.now) c.requires.kind
 
 pub note-requires-clause-most : goal.note-requires-clause-most
 note-requires-clause-most g c = omega (arith, c.room-room.ensures.room, c.room-room.ensures.most)
@@ -28,8 +32,9 @@ invariant_of-pass g c =
     (omega (arith, c.from.ensures, c.number.ensures)) c.index_mut-desk.ensures.value c.note.ensures.noted c.note.ensures.hand c.len-point.ensures
     c.room-room.ensures.counted (omega (arith, c.room-room.ensures.room)) c.requires.room c.requires.kind in (
       done.1,
-      subst (λ (h : HandNotes). AsksFor h.notes c.pass.inside.deed) (sym c.note.ensures.hand)
-          (asks_other c.pass.inside.hand.notes c.len-point.result (c.room-room.result - 1) (g.E.Entered.item c.args.what.now) c.pass.inside.deed c.requires.kind c.pass.invariant.1),
+      subst (λ (h : HandNotes). IsLastCall h.notes (call_seen c.pass.inside.number c.pass.inside.deed)) (sym c.note.ensures.hand)
+          (last_other c.pass.inside.hand.notes c.len-point.result (c.room-room.result - 1) (g.E.Entered.item c.args.what.now) (call_seen c.pass.inside.number c.pass.inside.deed) c.requires.kind c.pass.invariant.1),
+      λ own. c.pass.invariant.2 (sym (ap (λ (h : HandNotes). h.hand) c.note.ensures.hand) ∙ own),
     )
 
 pub returns-clause-event : goal.returns-clause-event

@@ -1,13 +1,17 @@
 use Rattle.std.proofs.Common.{◌∙◌, ℕ, List, length, ap, sym, subst, arith}
 use Rattle.ecp_sequencer.specs.declared.limits.TheConstants.{ROOM}
 use Rattle.ecp_sequencer.specs.Facts.{HandFacts, facts_of}
-use Rattle.ecp_sequencer.specs.Passes.{AsksFor, HandNotes, PassState}
+use Rattle.ecp_sequencer.specs.Passes.{IsLastCall, HandNotes, call_seen, PassState}
 use Rattle.ecp_sequencer.specs.Sequencers.{SequencerState}
 use Rattle.ecp_sequencer.proofs.NoteLaws.{facts-other}
-use Rattle.ecp_sequencer.proofs.AskLaws.{asks_other}
+use Rattle.ecp_sequencer.proofs.AskLaws.{last_other, open_other}
 use Rattle.ecp_sequencer.proofs.KeptLaws.{fits_other}
 use Rattle.ecp_sequencer.proofs.EventLaws.{noted_full}
 use Rattle.ecp_sequencer.proofs.sequencer.Sequencer.note_taking.Goals as goal
+
+pub note-requires-clause-opened : goal.note-requires-clause-opened
+note-requires-clause-opened g c =
+    c.is_open-opened.ensures ∙ open_other c.index_mut-desk.result.now.notes c.len-point.result (ROOM) (g.E.Entered.item c.args.what.now) c.requires.kind
 
 pub invariant_of-self-2 : goal.invariant_of-self-2
 invariant_of-self-2 g c =
@@ -23,7 +27,7 @@ invariant_of-self-2 g c =
     (omega (arith, c.from.ensures, c.number.ensures)) c.index_mut-desk.ensures.value c.note.ensures.noted c.note.ensures.hand c.len-point.ensures
     c.make_room.ensures.lines c.in_ok-taken.ensures.room c.in_ok-taken.ensures.spare c.in_ok-taken.ensures.history
     (fits_other v.hand s.history v.notes ROOM what c.requires.agree.entered c.requires.kind) (ap (λ (f : HandFacts). f.entries) facts)
-    (omega (arith, c.pass.invariant.0.numbered, ap (λ (f : HandFacts). f.calls) facts, ap (λ (p : PassState). (facts_of p.notes).calls) (c.pass.view_is ∙ c.renew.ensures.pass))) in
+    (omega (arith, c.pass.invariant.0.numbered, ap (λ (f : HandFacts). f.calls) facts, ap (λ (p : PassState). (facts_of p.notes).calls) (c.pass.view_is ∙ c.renew.ensures.pass))) (omega arith) in
     done.0
 
 pub invariant_of-pass : goal.invariant_of-pass
@@ -40,10 +44,11 @@ invariant_of-pass g c =
     (omega (arith, c.from.ensures, c.number.ensures)) c.index_mut-desk.ensures.value c.note.ensures.noted c.note.ensures.hand c.len-point.ensures
     c.make_room.ensures.lines c.in_ok-taken.ensures.room c.in_ok-taken.ensures.spare c.in_ok-taken.ensures.history
     (fits_other v.hand s.history v.notes ROOM what c.requires.agree.entered c.requires.kind) (ap (λ (f : HandFacts). f.entries) facts)
-    (omega (arith, c.pass.invariant.0.numbered, ap (λ (f : HandFacts). f.calls) facts, ap (λ (p : PassState). (facts_of p.notes).calls) (c.pass.view_is ∙ c.renew.ensures.pass))) in (
+    (omega (arith, c.pass.invariant.0.numbered, ap (λ (f : HandFacts). f.calls) facts, ap (λ (p : PassState). (facts_of p.notes).calls) (c.pass.view_is ∙ c.renew.ensures.pass))) (omega arith) in (
       done.1,
-      subst (λ (h : HandNotes). AsksFor h.notes c.pass.inside.deed) (sym c.note.ensures.hand)
-          (asks_other c.pass.inside.hand.notes c.len-point.result ROOM what c.pass.inside.deed c.requires.kind c.pass.invariant.1),
+      subst (λ (h : HandNotes). IsLastCall h.notes (call_seen c.pass.inside.number c.pass.inside.deed)) (sym c.note.ensures.hand)
+          (last_other c.pass.inside.hand.notes c.len-point.result ROOM what (call_seen c.pass.inside.number c.pass.inside.deed) c.requires.kind c.pass.invariant.1),
+      λ own. c.pass.invariant.2 (sym (ap (λ (h : HandNotes). h.hand) c.note.ensures.hand) ∙ own),
     )
 
 pub returns-clause-ok : goal.returns-clause-ok
@@ -60,5 +65,5 @@ returns-clause-ok g c =
     (omega (arith, c.from.ensures, c.number.ensures)) c.index_mut-desk.ensures.value c.note.ensures.noted c.note.ensures.hand c.len-point.ensures
     c.make_room.ensures.lines c.in_ok-taken.ensures.room c.in_ok-taken.ensures.spare c.in_ok-taken.ensures.history
     (fits_other v.hand s.history v.notes ROOM what c.requires.agree.entered c.requires.kind) (ap (λ (f : HandFacts). f.entries) facts)
-    (omega (arith, c.pass.invariant.0.numbered, ap (λ (f : HandFacts). f.calls) facts, ap (λ (p : PassState). (facts_of p.notes).calls) (c.pass.view_is ∙ c.renew.ensures.pass))) in
+    (omega (arith, c.pass.invariant.0.numbered, ap (λ (f : HandFacts). f.calls) facts, ap (λ (p : PassState). (facts_of p.notes).calls) (c.pass.view_is ∙ c.renew.ensures.pass))) (omega arith) in
     done.2

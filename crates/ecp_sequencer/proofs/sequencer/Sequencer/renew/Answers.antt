@@ -15,6 +15,7 @@ invariant_of-pass g c =
           c.pass.inside.front.items c.renew_front.new.front.items c.pass.inside.hand c.pass.inside.spare.items c.pass.invariant.0
           (ap (λ (k : Known). k.log) front ∙ c.self.invariant.on_history) longer (omega arith),
       c.pass.invariant.1,
+      c.pass.invariant.2,
     )
 
 pub returns-clause-event : goal.returns-clause-event

@@ -13,5 +13,5 @@ note-requires-clause-agree g c = c.in_ok-note_taking.ensures.ok.agrees
 pub note-requires-clause-room : goal.note-requires-clause-room
 note-requires-clause-room g c =
     let full : room_noted c.note_taking.new.pass.notes ≡ ROOM =
-    ap room_noted c.in_ok-note_taking.ensures.ok.steps.noted ∙ room-more c.begin.new.pass.notes (length c.begin.new.self.history) ROOM (2 ∷ 5 ∷ []) in
+    ap room_noted c.in_ok-note_taking.ensures.ok.steps.noted ∙ room-more c.begin.new.pass.notes (length c.begin.new.self.history) ROOM (3 ∷ 5 ∷ []) in
     omega (arith, full)

@@ -1,4 +1,4 @@
-use Rattle.std.proofs.Common.{◌≡◌, ◌∙◌, ◌+◌, ◌<◌, length, get_or, length-set, ap, arith}
+use Rattle.std.proofs.Common.{◌∙◌, ◌<◌, length, get_or, length-set, ap, arith}
 use Rattle.ecp_sequencer.specs.Passes.{PassState}
 use Rattle.ecp_book.specs.Logs.{Known}
 use Rattle.ecp_sequencer.proofs.RoundLaws.{raised, one_raised}

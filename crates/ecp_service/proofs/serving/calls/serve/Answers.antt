@@ -1,4 +1,4 @@
-use Rattle.ecp_service.proofs.AnswerLaws.{cat_answered, join_answered, lose_answered, put_answered, read_answered, stat_answered, sum_answered}
+use Rattle.ecp_service.proofs.AnswerLaws.{cat_answered, put_answered, read_answered, stat_answered, sum_answered}
 use Rattle.ecp_service.proofs.serving.calls.serve.Goals as goal
 
 pub returns-in_ok-act-in-Put-clause-answered : goal.returns-in_ok-act-in-Put-clause-answered
@@ -20,16 +20,6 @@ pub returns-in-Cat-clause-answered : goal.returns-in-Cat-clause-answered
 returns-in-Cat-clause-answered g c =
     cat_answered g.N.Names.shape g.N.Names.told c.args.pass.now c.cat.new.pass c.args.call.now c.in-Cat.name c.as_str-in-Cat.result.now c.cat.result
     c.in-Cat.is c.as_str-in-Cat.ensures c.cat.ensures.ok
-
-pub returns-in_ok-act-in-Lose-clause-answered : goal.returns-in_ok-act-in-Lose-clause-answered
-returns-in_ok-act-in-Lose-clause-answered g c =
-    lose_answered g.N.Names.shape g.N.Names.told c.args.pass.now c.lose.new.pass c.args.call.now c.in-Lose.node c.in_ok-act-in-Lose.act c.without_bytes-in-Lose.result
-    c.in-Lose.is c.without_bytes-in-Lose.ensures.0 c.without_bytes-in-Lose.ensures.1 c.in_ok-act-in-Lose.ensures.ok
-
-pub returns-in_ok-act-in-Join-clause-answered : goal.returns-in_ok-act-in-Join-clause-answered
-returns-in_ok-act-in-Join-clause-answered g c =
-    join_answered g.N.Names.shape g.N.Names.told c.args.pass.now c.join.new.pass c.args.call.now c.in-Join.node c.in_ok-act-in-Join.act c.without_bytes-in-Join.result
-    c.in-Join.is c.without_bytes-in-Join.ensures.0 c.without_bytes-in-Join.ensures.1 c.in_ok-act-in-Join.ensures.ok
 
 pub returns-in_ok-act-in-Stat-clause-answered : goal.returns-in_ok-act-in-Stat-clause-answered
 returns-in_ok-act-in-Stat-clause-answered g c =

@@ -5,10 +5,10 @@ use Rattle.ecp_service.proofs.ServedLaws.{next_call, next_push, no_call, past_no
 use Rattle.ecp_service.proofs.serving.calls.serve_next.Goals as goal
 
 pub loop-planned-init : goal.loop-planned-init
-loop-planned-init g c = ([], sym (append-nil c.args.answers.now.items), refl, prefix_self c.args.pass.now.front, refl)
+loop-planned-init g c = ([], sym (append-nil c.args.answers.now.items), refl, prefix_self c.args.pass.now.front, refl, c.requires.whole)
 
-pub serve-requires : goal.serve-requires
-serve-requires g c =
+pub serve-requires-clause-servable : goal.serve-requires-clause-servable
+serve-requires-clause-servable g c =
     let calls = c.args.calls.now in
     let n = length c.loop-planned.answers.items in
     let p = c.in-Some.planned.now in
@@ -29,6 +29,7 @@ loop-planned-preserved g c =
           c.in_ok-serve.ensures.answered,
       prefix_trans c.args.pass.now.front c.loop-planned.pass.front c.serve.new.pass.front was.3 c.serve.ensures.grows,
       c.push_reserved.ensures.capacity ∙ was.4,
+      c.serve.ensures.whole,
     )
 
 pub returns-then-planned-phase-clause-served : goal.returns-then-planned-phase-clause-served

@@ -2,6 +2,7 @@ use Rattle.std.proofs.Common.{◌≡◌, ◌++◌, ◌-◌, List, drop, length}
 use Rattle.std.specs.Prelude.{vec_capacity}
 use mathlib.Core.List.{IsPrefix}
 use Rattle.ecp_cluster.specs.declared.answer.Answer.{Answer}
+use Rattle.ecp_sequencer.specs.Passes.{IsWhole}
 use Rattle.ecp_service.specs.Callers.{ServedOf}
 use Rattle.ecp_service.proofs.serving.calls.serve_next.Given as goal
 
@@ -13,6 +14,7 @@ invariant-loop-planned g l =
     × ServedOf g.N.Names.shape g.N.Names.told l.phase l.fn.pass (drop (length l.fn.answers.items) l.calls) given l.pass
     × IsPrefix l.fn.pass.front l.pass.front
     × (vec_capacity l.answers ≡ vec_capacity l.fn.answers)
+    × IsWhole l.pass
 
 abbrev pub decreases-loop-planned : goal.decreases-loop-planned
 decreases-loop-planned g l = length l.calls - length l.answers.items
