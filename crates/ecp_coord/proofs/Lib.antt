@@ -31,6 +31,7 @@ pub mod StatLaws
 pub mod OpeningLaws
 pub mod ClosingLaws
 pub mod StillLaws
+pub mod ListingLaws
 pub mod UpLaws
 pub mod OvertakeLaws
 pub mod StoreLaws

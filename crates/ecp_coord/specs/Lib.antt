@@ -10,6 +10,7 @@ pub mod Coords
 pub mod Budget
 pub mod Voids
 pub mod Refusals
+pub mod Listing
 pub mod Helping
 pub mod Plans
 pub mod Attempts

@@ -10,7 +10,7 @@
 //!
 //! The layer above may rely on what each event says of the pass (`specs/Calls.antt`, and `Event` and `Called` of
 //! `ecp_sequencer`), on its answer by the table of the history before it (`specs/Losing.antt`, `specs/Joining.antt`,
-//! `specs/Stating.antt`, `specs/Opening.antt`), and on what `settle` and `close` teach at the end. A call that is read part
+//! `specs/Stating.antt`, `specs/Opening.antt`, `specs/Listing.antt`), and on what `settle` and `close` teach at the end. A call that is read part
 //! by part ends by the parts that stand in its pass's front (`specs/Closing.antt`). Room is taken by `new`, `begin`, `plan` and `reserve_put` alone.
 #![tactic(auto)]
 
@@ -26,7 +26,9 @@ mod finishing;
 mod giving_up;
 mod helping;
 mod joining;
+mod listing;
 mod losing;
+mod no_list;
 mod no_places;
 mod no_plan;
 mod node_act;
@@ -50,6 +52,7 @@ pub use ask::Ask;
 pub use coord::Coord;
 pub use ecp_sequencer::Pass;
 pub use ecp_store::NoMemory;
+pub use no_list::NoList;
 pub use no_places::NoPlaces;
 pub use no_plan::NoPlan;
 pub use node_act::NodeAct;

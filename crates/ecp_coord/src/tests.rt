@@ -5,6 +5,7 @@ ghost use Rattle.ecp_coord.specs.Coords.{at_start, AreNodeLogs};
 
 mod calls;
 mod cats;
+mod lists;
 mod plans;
 mod puts;
 mod reads;
